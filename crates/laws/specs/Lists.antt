@@ -1,0 +1,34 @@
+-- Lists that definitions speak of: the numbers below a count, those that pass a test, whether one does, how often a number stands in a list, and a list in a fixed array.
+use mathlib.Core.Bool.{Bool, true, false, _||_, cond}
+use mathlib.Core.List.{List, [], _∷_, _++_}
+use Prim.Native.Nat.{ℕ, zero, suc, _+_, _-_}
+use lib.Dec.{eqb}
+use lib.ListN.{length, replicate}
+
+-- 0, 1 and so on below n, ascending
+unfoldable pub below : ℕ → List ℕ
+below zero = []
+below (suc n) = below n ++ (n ∷ [])
+
+-- the elements that pass the test, order kept
+unfoldable pub keep : {A : Type 0} → (A → Bool) → List A → List A
+keep p [] = []
+keep p (x ∷ l) = cond (p x) (x ∷ keep p l) (keep p l)
+
+-- whether some element passes the test
+unfoldable pub any : {A : Type 0} → (A → Bool) → List A → Bool
+any p [] = false
+any p (x ∷ l) = p x || any p l
+
+-- whether x stands in the list
+abbrev pub holds : ℕ → List ℕ → Bool
+holds x l = any (λ y. eqb y x) l
+
+-- how often x stands in the list
+unfoldable pub times : ℕ → List ℕ → ℕ
+times x [] = 0
+times x (y ∷ l) = cond (eqb y x) 1 0 + times x l
+
+-- a list in an array of n numbers: 0 behind its end
+abbrev pub padded : ℕ → List ℕ → List ℕ
+padded n l = l ++ replicate (n - length l) 0

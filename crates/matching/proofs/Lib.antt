@@ -1,0 +1,8 @@
+-- Laws of matching, and what its loops cite.
+pub mod NextPick
+pub mod Taken
+pub mod Laws
+pub mod Best
+pub mod Held
+pub mod Left
+pub mod Marked
