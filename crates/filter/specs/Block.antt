@@ -1,4 +1,4 @@
--- Rules 44 and 45: the filter's part of a record's block, and make, predict and update on it.
+-- Rules 4 and 51 to 54: the filter's part of a record's block, and make, predict and update on it.
 -- A block of n coordinates begins with n positions, n velocities, n position variances, n covariances, n velocity variances and n shown velocities.
 use mathlib.Core.Bool.{Bool}
 use mathlib.Core.List.{List}

@@ -1,4 +1,4 @@
--- Rules 41 and 42: one coordinate's start, predict and update, each operation rounded once, with old values on the right.
+-- Rules 51 to 53: one coordinate's start, predict and update, each operation rounded once, with old values on the right.
 use lib.Ieee.{Float}
 use Rattle.laws.specs.Float64.{_⊕_, _⊖_, _⊗_, _⊘_, f0, f1}
 use Rattle.filter.specs.declared.FilterSettings.{FilterSettings}

@@ -1,5 +1,6 @@
--- The optimized filter: its settings, one coordinate, the mask, and a record's block.
+-- The optimized filter: its settings, one coordinate, the mask, a record's block, and the marked examples.
 pub mod Settings
 pub mod Coordinate
 pub mod Mask
 pub mod Block
+pub mod Marked

@@ -1,4 +1,4 @@
--- Rule 43: which points of a detection are masked, and the d of a coordinate.
+-- Rule 54: which points of a detection are masked, and the d of a coordinate.
 use mathlib.Core.Bool.{Bool, not, _&&_, cond}
 use mathlib.Core.List.{List}
 use lib.Ieee.{Float, lt, le}

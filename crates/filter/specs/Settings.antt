@@ -1,4 +1,4 @@
--- Rule 40: the filter's five settings may be any float; the defaults are r 4, q 0.1, position variance 10, covariance 0, velocity variance 1.
+-- Rule 50: the filter's five settings may be any float; the defaults are r 4, q 0.1, position variance 10, covariance 0, velocity variance 1.
 use lib.Ieee.{binary64, ofBits}
 use Rattle.filter.specs.declared.FilterSettings.{FilterSettings}
 

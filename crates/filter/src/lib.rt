@@ -1,4 +1,4 @@
-// The optimized filter of filter/optimized.rs, on a record's block of the lent storage: docs/RULES.md, rules 40 to 45.
+// The optimized filter of filter/optimized.rs, on a record's block of the lent storage: docs/RULES.md, rules 4 and 50 to 55.
 ghost use mathlib.Core.Path.{_≡_};
 ghost use Prim.Native.Nat.{_*_, _<_, _≤_};
 ghost use lib.ListN.{length};
@@ -51,7 +51,7 @@ pub struct Coordinate {
 }
 
 // A new record's coordinate at z.
-pub fn start_coordinate(f: FilterSettings, z: f64) -> Coordinate
+fn start_coordinate(f: FilterSettings, z: f64) -> Coordinate
     ensures { λ r. ⌜ r ≡ started f z ⌝ }
 {
     Coordinate {
@@ -64,7 +64,7 @@ pub fn start_coordinate(f: FilterSettings, z: f64) -> Coordinate
     }
 }
 
-pub fn predict_coordinate(c: Coordinate) -> Coordinate
+fn predict_coordinate(c: Coordinate) -> Coordinate
     ensures { λ r. ⌜ r ≡ predicted c ⌝ }
 {
     Coordinate {
@@ -78,7 +78,7 @@ pub fn predict_coordinate(c: Coordinate) -> Coordinate
 }
 
 // One coordinate's update by z; d is 1, or 0 where its point is masked.
-pub fn update_coordinate(f: FilterSettings, z: f64, d: f64, c: Coordinate) -> Coordinate
+fn update_coordinate(f: FilterSettings, z: f64, d: f64, c: Coordinate) -> Coordinate
     ensures { λ r. ⌜ r ≡ updated f z d c ⌝ }
 {
     let s = c.cov + c.vel;
@@ -98,7 +98,7 @@ pub fn update_coordinate(f: FilterSettings, z: f64, d: f64, c: Coordinate) -> Co
 }
 
 // Whether some score is at most the threshold; a NaN never is.
-pub fn some_at_most(threshold: f64, scores: &[f64]) -> bool
+fn some_at_most(threshold: f64, scores: &[f64]) -> bool
     ensures { λ r. ⌜ r ≡ someAtMost threshold (now (scores .entry)) ⌝ }
 {
     let mut i = 0;
@@ -112,7 +112,7 @@ pub fn some_at_most(threshold: f64, scores: &[f64]) -> bool
 }
 
 // Whether a mask exists: scores are present and one is at most the threshold.
-pub fn needs_mask(has_scores: bool, threshold: f64, scores: &[f64]) -> bool
+fn needs_mask(has_scores: bool, threshold: f64, scores: &[f64]) -> bool
     ensures { λ r. ⌜ r ≡ maskExists «has_scores» threshold (now (scores .entry)) ⌝ }
 {
     if has_scores {
@@ -122,7 +122,7 @@ pub fn needs_mask(has_scores: bool, threshold: f64, scores: &[f64]) -> bool
 }
 
 // The d of a coordinate whose point has this score.
-pub fn diagonal(mask: bool, threshold: f64, score: f64) -> f64
+fn diagonal(mask: bool, threshold: f64, score: f64) -> f64
     ensures { λ r. ⌜ r ≡ observed mask threshold score ⌝ }
 {
     if mask {
@@ -135,7 +135,7 @@ pub fn diagonal(mask: bool, threshold: f64, score: f64) -> f64
 }
 
 // Coordinate j of a block of n.
-pub fn read_coordinate(block: &[f64], n: usize, j: usize) -> Coordinate
+fn read_coordinate(block: &[f64], n: usize, j: usize) -> Coordinate
     requires { ⌜ (j < n) × (6 * n ≤ length (now block)) ⌝ }
     ensures { λ r. ⌜ r ≡ coordinateAt n j (now (block .entry)) ⌝ }
 {
@@ -149,7 +149,7 @@ pub fn read_coordinate(block: &[f64], n: usize, j: usize) -> Coordinate
     }
 }
 
-pub fn put_coordinate(block: &mut [f64], n: usize, j: usize, c: Coordinate)
+fn put_coordinate(block: &mut [f64], n: usize, j: usize, c: Coordinate)
     requires { ⌜ (j < n) × (6 * n ≤ length (now block)) ⌝ }
     ensures { λ _. ⌜ now (block .exit) ≡ withCoordinate n j c (now (block .entry)) ⌝ }
 {
@@ -162,14 +162,14 @@ pub fn put_coordinate(block: &mut [f64], n: usize, j: usize, c: Coordinate)
 }
 
 // The turns of make, predict and update: coordinate j of the block.
-pub fn start_at(block: &mut [f64], n: usize, j: usize, f: FilterSettings, z: f64)
+fn start_at(block: &mut [f64], n: usize, j: usize, f: FilterSettings, z: f64)
     requires { ⌜ (j < n) × (6 * n ≤ length (now block)) ⌝ }
     ensures { λ _. ⌜ now (block .exit) ≡ withCoordinate n j (started f z) (now (block .entry)) ⌝ }
 {
     put_coordinate(block, n, j, start_coordinate(f, z));
 }
 
-pub fn predict_at(block: &mut [f64], n: usize, j: usize)
+fn predict_at(block: &mut [f64], n: usize, j: usize)
     requires { ⌜ (j < n) × (6 * n ≤ length (now block)) ⌝ }
     ensures { λ _. ⌜ now (block .exit) ≡ turn predictOf n j (now (block .entry)) ⌝ }
 {
@@ -177,7 +177,7 @@ pub fn predict_at(block: &mut [f64], n: usize, j: usize)
     put_coordinate(block, n, j, predict_coordinate(c));
 }
 
-pub fn update_at(block: &mut [f64], n: usize, j: usize, f: FilterSettings, z: f64, d: f64)
+fn update_at(block: &mut [f64], n: usize, j: usize, f: FilterSettings, z: f64, d: f64)
     requires { ⌜ (j < n) × (6 * n ≤ length (now block)) ⌝ }
     ensures { λ _. ⌜ now (block .exit) ≡ withCoordinate n j (updated f z d (coordinateAt n j (now (block .entry)))) (now (block .entry)) ⌝ }
 {

@@ -5,3 +5,4 @@ pub mod Cells
 pub mod Elements
 pub mod Search
 pub mod Growing
+pub mod Turns

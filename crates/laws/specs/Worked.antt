@@ -1,4 +1,4 @@
--- Rule 60: a worked example is what a definition gives and what the page says, each spelt as numbers, so that one list can hold them all.
+-- Rule 80: a worked example is what a definition gives and what the page says, each spelt as numbers, so that one list can hold them all.
 use mathlib.Core.Path.{_≡_}
 use mathlib.Core.List.{List, [], _∷_}
 use Prim.Native.Nat.{ℕ}

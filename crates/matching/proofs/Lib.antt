@@ -2,6 +2,7 @@
 pub mod NextPick
 pub mod Taken
 pub mod Laws
+pub mod LentLaws
 pub mod Best
 pub mod Held
 pub mod Left

@@ -1,3 +1,4 @@
+-- `filter::put_coordinate` meets its contract: six stores, none of which changes the length.
 use mathlib.Core.Path.{refl}
 use Rattle.filter.specs.Block.{withCoordinate}
 use native.Mathlib.Omega.{arith}
@@ -5,8 +6,6 @@ use lib.ListN.{length-set}
 use borrow.Author.Needs.{needs}
 use Rattle.filter.proofs.put_coordinate.Statement.{statement}
 use Rattle.filter.proofs.put_coordinate.Tie as tie
-use Rattle.filter.proofs.put_coordinate.Reads as reads
-use Rattle.filter.proofs.put_coordinate.Lts as lts
 
 mul-block : tie.Need-mul-block
 mul-block c = search needs

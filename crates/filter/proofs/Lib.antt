@@ -1,0 +1,3 @@
+-- The laws of a filter's block, and its the marked examples.
+pub mod Block
+pub mod Marked

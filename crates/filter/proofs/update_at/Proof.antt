@@ -1,0 +1,26 @@
+-- `filter::update_at` meets its contract: the calls compose.
+use borrow.Author.Needs.{needs}
+use Rattle.filter.proofs.update_at.Statement.{statement}
+use Rattle.filter.proofs.update_at.Tie as tie
+
+read-coordinate-requires : tie.Need-read-coordinate-requires
+read-coordinate-requires c κs = search needs
+
+update-coordinate-requires : tie.Need-update-coordinate-requires
+update-coordinate-requires c κs = search needs
+
+put-coordinate-requires : tie.Need-put-coordinate-requires
+put-coordinate-requires c κs = search needs
+
+same-length : tie.Need-same-length
+same-length c = search needs
+
+returns : tie.Need-returns
+returns c =
+    rw
+    (c .before .before .put-coordinate .ensures, c .before .before .before .update-coordinate .ensures, c .before .before .before .before .before .read-coordinate .ensures)
+
+pub update-at-spec : {M : Type 1} → statement M
+update-at-spec =
+    tie.close
+    (tie.spec read-coordinate-requires update-coordinate-requires put-coordinate-requires same-length returns)
