@@ -1,8 +1,13 @@
 -- Laws that several crates cite.
-pub mod Finite
-pub mod FloatOrder
 pub mod Cells
 pub mod Elements
-pub mod Search
+pub mod Finite
+pub mod Flags
+pub mod FloatOrder
+pub mod Fronts
 pub mod Growing
+pub mod Mapped
+pub mod Pasting
+pub mod Search
+pub mod Signed
 pub mod Turns

@@ -20,19 +20,32 @@ turns-keep turn view zero a kept = refl
 turns-keep turn view (suc n) a kept =
     kept n (turns turn n a) (omega arith) ∙ turns-keep turn view n a (λ k b h. kept k b (omega arith))
 
+-- what each turn keeps true stays true
+pub turns-hold : {A : Type 0} (turn : ℕ → A → A) (P : A → Type 0) (n : ℕ) (a : A)
+    → ((k : ℕ) (b : A) → k < n → P b → P (turn k b)) → P a → P (turns turn n a)
+unfolding turns
+turns-hold turn P zero a kept p = p
+turns-hold turn P (suc n) a kept p =
+    kept n (turns turn n a) (omega arith) (turns-hold turn P n a (λ k b h. kept k b (omega arith)) p)
+
+-- what turn i alone changes is changed once
+pub turns-once : {A B : Type 0} (turn : ℕ → A → A) (view : A → B) (g : B → B) (i n : ℕ) (a : A) → i < n
+    → view (turn i (turns turn i a)) ≡ g (view (turns turn i a))
+    → ((k : ℕ) (b : A) → k < n → i ≢ k → view (turn k b) ≡ view b) → view (turns turn n a) ≡ g (view a)
+unfolding turns
+turns-once turn view g i zero a h here there = absurd (omega arith)
+turns-once turn view g i (suc n) a h here there =
+    ⊎-elim
+    (λ (e : i ≡ n). rw (← e) (here ∙ ap g (turns-keep turn view i a (λ k b hk. there k b (omega arith) (omega arith)))))
+    (λ (q : i < n).
+    there n (turns turn n a) (omega arith) (omega arith)
+    ∙ turns-once turn view g i n a q here (λ k b hk. there k b (omega arith)))
+    (eq-or-lt-of-le (le-of-suc-le-suc h))
+
 -- turn k makes g k of part k, and changes no other part
 module _ {A B : Type 0} (turn : ℕ → A → A) (part : ℕ → A → B) (g : ℕ → B → B) (n : ℕ) (a : A)
     (here : (k : ℕ) → k < n → part k (turn k (turns turn k a)) ≡ g k (part k (turns turn k a)))
     (there : (i k : ℕ) (b : A) → i < n → k < n → i ≢ k → part i (turn k b) ≡ part i b) where
-  -- a part whose turn has yet to come
-  turns-before : (k i : ℕ) → k ≤ i → i < n → part i (turns turn k a) ≡ part i a
-  turns-before k i h hi = turns-keep turn (part i) k a (λ m b hm. there i m b hi (omega arith) (omega arith))
-
-  -- a part whose turn has come
   pub turns-part : (k i : ℕ) → i < k → k ≤ n → part i (turns turn k a) ≡ g i (part i a)
-  unfolding turns
-  turns-part zero i h hk = absurd (omega arith)
-  turns-part (suc k) i h hk =
-      ⊎-elim (λ (e : i ≡ k). rw e (here k (omega arith) ∙ ap (g k) (turns-before k k (omega arith) (omega arith))))
-      (λ (q : i < k). there i k (turns turn k a) (omega arith) (omega arith) (omega arith) ∙ turns-part k i q (omega arith))
-      (eq-or-lt-of-le (le-of-suc-le-suc h))
+  turns-part k i h hk =
+      turns-once turn (part i) (g i) i k a h (here i (omega arith)) (λ m b hm. there i m b (omega arith) (omega arith))

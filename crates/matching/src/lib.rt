@@ -2,7 +2,6 @@
 ghost use mathlib.Core.Path.{_≡_};
 ghost use Prim.Native.Nat.{_*_, _≤_};
 ghost use lib.ListN.{length, take};
-ghost use Rattle.laws.specs.Lists.{holds};
 ghost use Rattle.matching.specs.Greedy.{smaller, nextPick, picks};
 ghost use Rattle.matching.specs.Lent.{countsBelow, lent, picksOf};
 ghost use Rattle.matching.specs.Unmatched.{unmatched, numbersOf};
@@ -111,21 +110,6 @@ pub fn match_detections_and_objects(
     }
 }
 
-// Whether x is among the first n of the numbers.
-fn is_matched(matched: [usize; 32], n: usize, x: usize) -> bool
-    requires { ⌜ n ≤ 32 ⌝ }
-    ensures { λ r. ⌜ r ≡ holds x (take n matched) ⌝ }
-{
-    let mut i = 0;
-    while i < n {
-        if matched[i] == x {
-            return true;
-        }
-        i += 1;
-    }
-    false
-}
-
 // The numbers below a total that none of the first n matched ones is, ascending.
 pub fn get_unmatched(total: usize, matched: [usize; 32], n: usize) -> Numbers
     requires { ⌜ (total ≤ 64) × (n ≤ 32) ⌝ }
@@ -135,7 +119,7 @@ pub fn get_unmatched(total: usize, matched: [usize; 32], n: usize) -> Numbers
     let mut count = 0;
     let mut i = 0;
     while i < total {
-        if !is_matched(matched, n, i) {
+        if !laws::is_among(&matched, n, i) {
             at[count] = i;
             count += 1;
         }

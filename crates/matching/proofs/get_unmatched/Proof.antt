@@ -16,26 +16,29 @@ use Rattle.matching.proofs.get_unmatched.Statement.{statement}
 use Rattle.matching.proofs.get_unmatched.Tie as tie
 
 abbrev Inv-loop : tie.InvT-loop
-Inv-loop total matched n at₀ count₀ i₀ at count i =
+Inv-loop total n matched at₀ count₀ i₀ at count i =
     (i ≤ total) × (count ≡ length (unmatched i (take n matched))) × (at ≡ padded 64 (unmatched i (take n matched)))
 
 abbrev μ-loop : tie.MeasureT-loop
-μ-loop total matched n at₀ count₀ i₀ at count i = total - i
+μ-loop total n matched at₀ count₀ i₀ at count i = total - i
 
 loop-holds : tie.Need-loop-holds Inv-loop μ-loop
 unfolding below keep
 loop-holds c = (search needs, refl, refl)
 
-is-matched-requires : tie.Need-is-matched-requires Inv-loop μ-loop
-is-matched-requires c κs = search needs
+slice-aggregate-is-among : tie.Need-slice-aggregate-is-among Inv-loop μ-loop
+slice-aggregate-is-among c = search needs
+
+is-among-requires : tie.Need-is-among-requires Inv-loop μ-loop
+is-among-requires c κs = search needs
 
 -- there is room for one number more
-room : (c : tie.Then1 Inv-loop μ-loop) → c .before .before .before .loop .count ≤ 63
+room : (c : tie.Then1 Inv-loop μ-loop) → c .before .before .before .before .loop .count ≤ 63
 room c =
     omega (
       arith,
-      at-most-total (c .before .before .before .loop .i)
-          (take (c .before .before .before .before .args .n) (c .before .before .before .before .args .matched)),
+      at-most-total (c .before .before .before .before .loop .i)
+          (take (c .before .before .before .before .before .args .n) (c .before .before .before .before .before .args .t2)),
     )
 
 mul-at : tie.Need-mul-at Inv-loop μ-loop
@@ -55,21 +58,21 @@ loop-less c = search needs
 
 loop-again : tie.Need-loop-again Inv-loop μ-loop
 loop-again c =
-    let s = c .before .before .before .before in
-    let loop = c .before .before .before .loop in
-    let ms = take (s .args .n) (s .args .matched) in
+    let s = c .before .before .before .before .before in
+    let loop = c .before .before .before .before .loop in
+    let ms = take (s .args .n) (s .args .t2) in
     let l = unmatched (loop .i) ms in
     ⊎-elim
     (λ w.
     let u : unmatched (loop .i + 1) ms ≡ l ++ (loop .i ∷ []) =
-    rw (add-one (loop .i)) (joins (loop .i) ms (ap not (sym (c .before .is-matched .ensures)) ∙ w .0 .taken)) in (
+    rw (add-one (loop .i)) (joins (loop .i) ms (ap not (sym (c .before .is-among .ensures)) ∙ w .0 .taken)) in (
       omega arith,
       rw (u, length-snoc l (loop .i)) (w .2 ∙ add-one (loop .count) ∙ ap suc (loop .inv .1)),
       rw u (w .1 ∙ rw (loop .inv .2, loop .inv .1) (padded-snoc 64 l (loop .i) (omega (arith, at-most-total (loop .i) ms)))),
     ))
     (λ w.
     let u : unmatched (loop .i + 1) ms ≡ l =
-    rw (add-one (loop .i)) (stays-out (loop .i) ms (ap not (sym (c .before .is-matched .ensures)) ∙ w .0 .left)) in
+    rw (add-one (loop .i)) (stays-out (loop .i) ms (ap not (sym (c .before .is-among .ensures)) ∙ w .0 .left)) in
     (omega arith, rw u (w .2 ∙ loop .inv .1), rw u (w .1 ∙ loop .inv .2)))
     (c .if1 .came)
 
@@ -85,7 +88,8 @@ get-unmatched-spec =
     Inv-loop
     μ-loop
     loop-holds
-    is-matched-requires
+    slice-aggregate-is-among
+    is-among-requires
     mul-at
     array-write-at
     add-count
