@@ -2,6 +2,7 @@
 pub mod Bounds
 pub mod Kept
 pub mod LifeLaws
+pub mod Marked
 pub mod MergeLaws
 pub mod ObjectLaws
 pub mod PastLaws

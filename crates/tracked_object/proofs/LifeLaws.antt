@@ -1,4 +1,4 @@
--- Rules 45, 46 and 80: a record takes the next permanent ID where it stops to initialize, and what becomes of a counter above the maximum.
+-- Rules 45 and 46: a record takes the next permanent ID exactly where it stops to initialize.
 use mathlib.Core.Path.{_≡_, refl}
 use mathlib.Core.Bool.{Bool, true, false, cond, not, _&&_}
 use Prim.Native.Nat.{ℕ}
@@ -31,23 +31,3 @@ settled false = refl
 pub issued-opened : (period : ℕ) (delay : ℤ) (next : ℕ) → not (lifeOpened period delay next .«is_initializing») ≡ isZero delay
 unfolding lifeOpened
 issued-opened period delay next = settled (isZero delay)
-
--- ---- rule 80: with maximum 15 a record opened at period 20 has counter 20, after a predict 19, and after a hit 15
-
-abbrev opened : Life
-opened = lifeOpened 20 (pos 7) 1
-
-abbrev predicted : Life
-predicted = lifePredicted Absent opened
-
-pub counter-opened : opened .«hit_counter» ≡ pos 20
-unfolding lifeOpened
-counter-opened = refl
-
-pub counter-predicted : predicted .«hit_counter» ≡ pos 19
-unfolding lifeOpened lifePredicted
-counter-predicted = refl
-
-pub counter-hit : lifeHit 20 (pos 15) (pos 7) Absent 1 predicted .«hit_counter» ≡ pos 15
-unfolding lifeOpened lifePredicted lifeHit
-counter-hit = refl

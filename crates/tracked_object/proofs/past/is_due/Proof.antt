@@ -8,6 +8,7 @@ use borrow.Author.Tests.{ltb-true}
 use lib.IntN.{ℤ, pos, negsuc}
 use lib.Signed.{ltZ, mag}
 use mir.Facts.{toZ-ofZ}
+use Rattle.laws.proofs.Signed.{not-negative}
 use Rattle.tracked_object.specs.Past.{isDue}
 use Rattle.tracked_object.proofs.past.is_due.Statement.{statement}
 use Rattle.tracked_object.proofs.past.is_due.Tie as tie
@@ -16,12 +17,8 @@ absent : (z : ℤ) (age most : ℕ) → ltZ z (pos 0) ≡ true → false ≡ isD
 absent (pos n) age most h = absurd (omega (arith, ltb-true n 0 h))
 absent (negsuc n) age most h = refl
 
-present : (z : ℤ) → ltZ z (pos 0) ≡ false → z ≡ pos (mag z)
-present (pos n) h = refl
-present (negsuc n) h = cc
-
 told : (c : tie.Else1) → c .before .args .oldest ≡ pos (mag (c .before .args .oldest))
-told c = present (c .before .args .oldest) (rw (toZ-ofZ (c .before .fits .oldest)) at (c .if1 .left))
+told c = not-negative (c .before .args .oldest) (rw (toZ-ofZ (c .before .fits .oldest)) at (c .if1 .left))
 
 returns : tie.Need-returns
 returns c =
