@@ -22,7 +22,7 @@ pub fn write_at(s: &mut [f64], at: usize, src: &[f64], n: usize)
 }
 
 // n floats of s moved down, from place `from` to place at.
-fn move_down(s: &mut [f64], at: usize, from: usize, n: usize)
+pub fn move_down(s: &mut [f64], at: usize, from: usize, n: usize)
     requires { ⌜ (at ≤ from) × (from + n ≤ length (now s)) ⌝ }
     ensures { λ _. ⌜ now (s .exit) ≡ paste (now (s .entry)) at (drop from (now (s .entry))) n ⌝ }
 {

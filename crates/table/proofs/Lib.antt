@@ -1,0 +1,9 @@
+-- What a whole table is, in numbers, and what the functions of this crate cite.
+pub mod Chain
+pub mod Passing
+pub mod Names
+pub mod Facts
+pub mod Due
+pub mod Marked
+pub mod MakingLaws
+pub mod SlotLaws

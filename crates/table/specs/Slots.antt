@@ -1,0 +1,31 @@
+-- The model of a table and its floats: a list of slots, each a record and its block.
+use mathlib.Core.List.{List, [], _∷_, _++_, map}
+use Prim.Native.Nat.{ℕ, zero, suc, _+_, _*_}
+use lib.ListN.{length, getD, take, drop}
+use lib.Ieee.{Float}
+use Rattle.tracked_object.specs.declared.TrackedObject.{TrackedObject}
+use Rattle.table.specs.Making.{zeroObject}
+
+pub record Slot : Type 0 where
+  pub object : TrackedObject
+  pub block : List Float
+
+-- the first n records with their blocks of b floats
+unfoldable pub slots : ℕ → List TrackedObject → List Float → ℕ → List Slot
+slots b records floats zero = []
+slots b records floats (suc n) =
+    slots b records floats n ++ (record { object = getD records n zeroObject; block = take b (drop (n * b) floats) } ∷ [])
+
+-- back in their places: the slots in front, what was there behind
+abbrev pub objectsOf : List Slot → List TrackedObject
+objectsOf l = map (λ s. s .object) l
+
+unfoldable pub blocksOf : List Slot → List Float
+blocksOf [] = []
+blocksOf (s ∷ l) = s .block ++ blocksOf l
+
+abbrev pub recordsBack : List Slot → List TrackedObject → List TrackedObject
+recordsBack l records = objectsOf l ++ drop (length l) records
+
+abbrev pub floatsBack : ℕ → List Slot → List Float → List Float
+floatsBack b l floats = blocksOf l ++ drop (length l * b) floats
