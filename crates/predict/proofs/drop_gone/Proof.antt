@@ -1,0 +1,168 @@
+-- `predict::drop_gone` meets its contract: in front stand the records below i that stay, with their blocks, and behind them what was there.
+use mathlib.Core.Path.{_≡_, refl, sym, _∙_, ap}
+use mathlib.Core.Bool.{true, false}
+use mathlib.Core.List.{List, [], _∷_}
+use Prim.Native.Nat.{ℕ, suc, _≤_, _<_, _+_, _-_, _*_}
+use native.Mathlib.Nat.{zero-mul, mul-le-mul-right, le-trans}
+use native.Mathlib.Omega.{arith}
+use native.Mathlib.Numerals.{add-one}
+use borrow.Author.Needs.{needs}
+use lib.ListN.{length, getD, drop, set}
+use lib.Seq.{paste}
+use Rattle.tracked_object.specs.declared.block.Layout.{Layout}
+use Rattle.tracked_object.specs.Layout.{blockSize}
+use Rattle.tracked_object.proofs.Bounds.{block-most}
+use Rattle.laws.specs.Lists.{keep}
+use Rattle.table.specs.Making.{zeroObject}
+use Rattle.table.specs.Slots.{slots, blocksOf, recordsBack, floatsBack}
+use Rattle.predict.specs.Step.{gone, keptOf}
+use Rattle.predict.proofs.Dropping.{Room, room, kept-length, gone-turn, one-more, record-moved, block-moved}
+use Rattle.predict.proofs.Reading.{blank, read}
+use Rattle.predict.proofs.drop_gone.Statement.{statement}
+use Rattle.predict.proofs.drop_gone.Tie as tie
+
+abbrev Inv-loop : tie.InvT-loop
+Inv-loop config n s₀ records size kept₀ k₀ i₀ s kept k i =
+    (i ≤ n)
+    × (k ≡ length (keptOf config i records s₀))
+    × (kept ≡ recordsBack (keptOf config i records s₀) records)
+    × (s ≡ floatsBack (blockSize config) (keptOf config i records s₀) s₀)
+
+abbrev μ-loop : tie.MeasureT-loop
+μ-loop config n s₀ records size kept₀ k₀ i₀ s kept k i = n - i
+
+abbrev given : tie.At-loop Inv-loop μ-loop → tie.Start Inv-loop μ-loop
+given l = l .before .before .before
+
+layout-of-requires : tie.Need-layout-of-requires Inv-loop μ-loop
+layout-of-requires c κs = search needs
+
+loop-holds : tie.Need-loop-holds Inv-loop μ-loop
+unfolding keep slots blocksOf
+loop-holds c = (search needs, refl, refl, rw zero-mul)
+
+mul-o : tie.Need-mul-o Inv-loop μ-loop
+mul-o c = search needs
+
+array-copy-out-o : tie.Need-array-copy-out-o Inv-loop μ-loop
+array-copy-out-o c = search needs
+
+is-gone-requires : tie.Need-is-gone-requires Inv-loop μ-loop
+is-gone-requires c κs = search needs
+
+-- the record that the code read
+here : (c : tie.In-loop Inv-loop μ-loop)
+    → let a = given (c .before) .args in getD (a .t2) (c .before .loop .i) blank ≡ getD (a .t2) (c .before .loop .i) zeroObject
+here c =
+    let s = given (c .before) in
+    let all : length (s .args .t2) ≡ 64 = s .good .1 .0 .1 .0 .1 in
+    read (s .args .t2) (c .before .loop .i) (omega arith)
+
+answered : (c : tie.After-is-gone Inv-loop μ-loop)
+    → let l = c .before .before .before in c .is-gone .result ≡ gone (given l .args .config) (getD (given l .args .t2) (l .loop .i) zeroObject)
+answered c = c .is-gone .ensures ∙ ap (gone (given (c .before .before .before) .args .config)) (here (c .before .before))
+
+add-i : tie.Need-add-i Inv-loop μ-loop
+add-i c = search needs
+
+loop-less : tie.Need-loop-less Inv-loop μ-loop
+loop-less c = search needs
+
+loop-again : tie.Need-loop-again Inv-loop μ-loop
+loop-again c =
+    let l = c .before .before .before .before in
+    let a = given l .args in
+    let e = gone-turn (a .config) (a .t2) (a .s .now) (l .loop .i) (sym (answered (c .before)) ∙ c .if1 .taken) in
+    (search needs, rw (add-one, e) (l .loop .inv .1), rw (add-one, e) (l .loop .inv .2), rw (add-one, e) (l .loop .inv .3))
+
+space : (c : tie.In-loop Inv-loop μ-loop)
+    → let l = c .before in
+    Room (blockSize (given l .args .config)) (given l .args .s .now) (l .loop .s) (l .loop .i) (l .loop .k)
+space c =
+    let l = c .before in
+    let a = given l .args in
+    room (a .config) (a .t2) (a .s .now) (l .loop .i) (a .n) (l .loop .k) (l .loop .s) (c .loop-test .taken) (given l .pre .2) (l .loop .inv .1) (l .loop .inv .3)
+
+mul-kept : tie.Need-mul-kept Inv-loop μ-loop
+mul-kept c = let h = space (c .before .before .before) in record { fits = omega arith }
+
+array-set-from-kept : tie.Need-array-set-from-kept Inv-loop μ-loop
+array-set-from-kept c = let h = space (c .before .before .before) in omega arith
+
+mul-move-down : tie.Need-mul-move-down Inv-loop μ-loop
+mul-move-down c =
+    let l = c .before .before .before .before .before in
+    let h = space (c .before .before .before .before) in
+    rw (l .before .layout-of .ensures) record { fits = omega (arith, h, given l .good .1 .1 .1 .0 .0) }
+
+mul-move-down-2 : tie.Need-mul-move-down-2 Inv-loop μ-loop
+mul-move-down-2 c =
+    let l = c .before .before .before .before .before in
+    let h = space (c .before .before .before .before) in
+    rw (l .before .layout-of .ensures) record { fits = omega (arith, h, given l .good .1 .1 .1 .0 .0) }
+
+move-down-requires : tie.Need-move-down-requires Inv-loop μ-loop
+move-down-requires c κs =
+    let h = space (c .before .before .before .before) in
+    rw (c .before .before .before .before .before .before .layout-of .ensures, h .long) (h .down, h .fits)
+
+add-k : tie.Need-add-k Inv-loop μ-loop
+add-k c = let h = space (c .before .before .before .before .before .before .before) in record { fits = omega arith }
+
+add-i-2 : tie.Need-add-i-2 Inv-loop μ-loop
+add-i-2 c = search needs
+
+loop-less-2 : tie.Need-loop-less-2 Inv-loop μ-loop
+loop-less-2 c = search needs
+
+loop-again-2 : tie.Need-loop-again-2 Inv-loop μ-loop
+loop-again-2 c =
+    let moved = c .before .before in
+    let t = moved .before .before .before .before .before in
+    let l = t .before in
+    let a = given l .args in
+    let size = ap (λ (r : Layout). r .size) (l .before .layout-of .ensures) in
+    let stays = sym (answered (moved .before .before .before)) ∙ moved .before .before .if1 .left in
+    let all : length (a .t2) ≡ 64 = given l .good .1 .0 .1 .0 .1 in (
+      search needs,
+      rw (add-one, add-one, one-more (a .config) (a .t2) (a .s .now) (l .loop .i) stays) (ap suc (l .loop .inv .1)),
+      rw add-one (record-moved (a .config) (a .t2) (a .s .now) (l .loop .i) stays (omega arith) (l .loop .inv .1) (l .loop .inv .2) (here t)),
+      rw add-one (block-moved (a .config) (a .t2) (a .s .now) (l .loop .i) stays size (space t) (l .loop .inv .1) (l .loop .inv .3) (moved .move-down .ensures)),
+    )
+
+same-length : tie.Need-same-length Inv-loop μ-loop
+same-length c =
+    let a = given (c .before) .args in
+    let whole = le-trans (mul-le-mul-right (blockSize (a .config)) (c .before .loop .inv .0)) (given (c .before) .pre .2) in
+    rw (c .before .loop .inv .3) (kept-length (a .config) (a .t2) (a .s .now) (c .before .loop .i) whole)
+
+returns : tie.Need-returns Inv-loop μ-loop
+returns c =
+    let e : c .before .loop .i ≡ given (c .before) .args .n = omega arith in
+    (rw (c .before .loop .inv .1, c .before .loop .inv .2, e), rw e at (c .before .loop .inv .3))
+
+pub drop-gone-spec : {M : Type 1} → statement M
+drop-gone-spec =
+    tie.close
+    (tie.spec
+    Inv-loop
+    μ-loop
+    layout-of-requires
+    loop-holds
+    mul-o
+    array-copy-out-o
+    is-gone-requires
+    add-i
+    loop-less
+    loop-again
+    mul-kept
+    array-set-from-kept
+    mul-move-down
+    mul-move-down-2
+    move-down-requires
+    add-k
+    add-i-2
+    loop-less-2
+    loop-again-2
+    same-length
+    returns)

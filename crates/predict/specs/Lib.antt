@@ -1,0 +1,2 @@
+-- Step 1: drop, sort out, predict.
+pub mod Step

@@ -1,0 +1,51 @@
+-- Rules 12 and 13: each public call's statement determines all that it answers and leaves, and a refusal changes nothing.
+use mathlib.Core.Path.{_≡_, refl, sym, _∙_}
+use mathlib.Core.Bool.{true, false, cond}
+use mathlib.Core.List.{List}
+use Prim.Native.Nat.{ℕ}
+use borrow.Author.Tests.{ne-eqb}
+use lib.Dec.{eqb}
+use lib.ListN.{length}
+use lib.Ieee.{Float}
+use Rattle.tracked_object.specs.declared.TrackerConfig.{TrackerConfig}
+use Rattle.table.specs.declared.Table.{Table}
+use Rattle.table.specs.declared.Answer.{Answer}
+use Rattle.table.specs.Making.{made}
+use Rattle.tracker.specs.declared.Count.{Count}
+use Rattle.tracker.specs.Calls.{predictRefusal, predictAnswer, predictStorage, totalAnswer, currentAnswer}
+
+-- ---- the statements, as the contracts have them
+
+abbrev pub NewSays : TrackerConfig → List Float → Answer → Type 0
+NewSays c s a = a ≡ made c (length s)
+
+abbrev pub PredictSays : Table → List Float → Answer → List Float → Type 0
+PredictSays t s a s′ = (a ≡ predictAnswer t s) × (s′ ≡ predictStorage t s)
+
+abbrev pub TotalSays : Table → Count → Type 0
+TotalSays t n = n ≡ totalAnswer t
+
+abbrev pub CurrentSays : Table → Count → Type 0
+CurrentSays t n = n ≡ currentAnswer t
+
+-- ---- two results that satisfy a statement coincide
+
+pub new-determined : (c : TrackerConfig) (s : List Float) (a b : Answer) → NewSays c s a → NewSays c s b → a ≡ b
+new-determined c s a b p q = p ∙ sym q
+
+pub predict-determined : (t : Table) (s : List Float) (a b : Answer) (s₁ s₂ : List Float)
+    → PredictSays t s a s₁ → PredictSays t s b s₂ → (a ≡ b) × (s₁ ≡ s₂)
+predict-determined t s a b s₁ s₂ p q = (p .0 ∙ sym (q .0), p .1 ∙ sym (q .1))
+
+pub total-determined : (t : Table) (m n : Count) → TotalSays t m → TotalSays t n → m ≡ n
+total-determined t m n p q = p ∙ sym q
+
+pub current-determined : (t : Table) (m n : Count) → CurrentSays t m → CurrentSays t n → m ≡ n
+current-determined t m n p q = p ∙ sym q
+
+-- ---- a refused step 1 returns the table, the count 0, and leaves the storage
+
+pub predict-refused : (t : Table) (s : List Float) → (predictRefusal t s ≡ 0 → ⊥)
+    → (predictAnswer t s .table ≡ t) × (predictAnswer t s .count ≡ 0) × (predictStorage t s ≡ s)
+unfolding predictAnswer predictStorage
+predict-refused t s refused = let e = ne-eqb (predictRefusal t s) 0 refused in (rw e, refl, rw e)

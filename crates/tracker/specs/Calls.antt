@@ -1,0 +1,47 @@
+-- Rules 11 to 13, 64, 70 and 71: each public call's answer and what it leaves in the storage, refusals among the cases.
+use mathlib.Core.Bool.{Bool, not, _&&_, cond}
+use mathlib.Core.List.{List}
+use Prim.Native.Nat.{ℕ, _-_}
+use lib.Dec.{eqb}
+use lib.IntN.{pos}
+use lib.ListN.{length, take}
+use lib.Signed.{leZ}
+use lib.Ieee.{Float}
+use Rattle.laws.specs.Lists.{keep}
+use Rattle.tracked_object.specs.declared.TrackedObject.{TrackedObject}
+use Rattle.table.specs.declared.Table.{Table}
+use Rattle.table.specs.declared.Answer.{Answer}
+use Rattle.table.specs.Making.{answerOf}
+use Rattle.table.specs.Refusals.{firstDue, predictChecks, countChecks}
+use Rattle.predict.specs.Step.{predictTable, predictFloats}
+use Rattle.tracker.specs.declared.Count.{Count}
+
+-- ---- step 1
+
+abbrev pub predictRefusal : Table → List Float → ℕ
+predictRefusal t s = firstDue (predictChecks t (length s))
+
+unfoldable pub predictAnswer : Table → List Float → Answer
+predictAnswer t s = answerOf (predictRefusal t s) (cond (eqb (predictRefusal t s) 0) (predictTable t s) t)
+
+unfoldable pub predictStorage : Table → List Float → List Float
+predictStorage t s = cond (eqb (predictRefusal t s) 0) (predictFloats t s) s
+
+-- ---- counts
+
+abbrev pub countOf : ℕ → ℕ → Count
+countOf refusal n = record { refusal = refusal; count = cond (eqb refusal 0) n 0 }
+
+-- the total is the permanent counter less 1
+unfoldable pub totalAnswer : Table → Count
+totalAnswer t = countOf (firstDue (countChecks t)) (t .counts .permanent - 1)
+
+-- active: not initializing, hit counter at least 0
+abbrev pub active : TrackedObject → Bool
+active o = not (o .life .«is_initializing») && leZ (pos 0) (o .life .«hit_counter»)
+
+abbrev pub activeOf : ℕ → List TrackedObject → List TrackedObject
+activeOf n records = keep active (take n records)
+
+unfoldable pub currentAnswer : Table → Count
+currentAnswer t = countOf (firstDue (countChecks t)) (length (activeOf (t .counts .records) (t .records)))

@@ -1,0 +1,104 @@
+// The public calls of the tracker, the only crate that a host names: docs/RULES.md. None has a requires.
+ghost use mathlib.Core.Path.{_≡_};
+ghost use Prim.Native.Nat.{_≤_};
+ghost use lib.ListN.{length};
+ghost use Rattle.table.specs.Making.{made};
+ghost use Rattle.tracker.specs.Calls.{predictAnswer, predictStorage, totalAnswer, currentAnswer, active, activeOf};
+pub use table::Answer;
+pub use table::Table;
+pub use tracked_object::ReidCounter;
+pub use tracked_object::TrackerConfig;
+
+// A count, or the refusal and 0.
+pub struct Count {
+    pub refusal: u32,
+    pub count: usize,
+}
+
+// Making: a fresh table, or refusal 1, 2, 3 or 4 and the table of zeros. It writes no float.
+pub fn new(config: TrackerConfig, storage: &[f64]) -> Answer
+    ensures { λ r. ⌜ r ≡ made config (length (now (storage .entry))) ⌝ }
+{
+    table::making::make(config, storage.len())
+}
+
+// Step 1: drop, sort out, predict; or refusal 5, 4, 6 or 7 and nothing changed.
+pub fn predict(t: Table, storage: &mut [f64]) -> Answer
+    ensures { λ r. ⌜ r ≡ predictAnswer t (now (storage .entry)) ⌝ }
+    ensures { λ _. ⌜ now (storage .exit) ≡ predictStorage t (now (storage .entry)) ⌝ }
+{
+    let refusal = table::making::predict_refusal(t, storage.len());
+    if refusal != 0 {
+        return Answer {
+            refusal,
+            count: 0,
+            table: t,
+        };
+    }
+    let table = predict::predict_table(t, storage);
+    Answer {
+        refusal,
+        count: 0,
+        table,
+    }
+}
+
+// How many permanent IDs were issued; or refusal 5.
+pub fn total_object_count(t: Table) -> Count
+    ensures { λ r. ⌜ r ≡ totalAnswer t ⌝ }
+{
+    let counts = t.counts;
+    if !table::wholeness::is_whole(t) {
+        return Count {
+            refusal: table::refusals::TABLE_NOT_WHOLE,
+            count: 0,
+        };
+    }
+    Count {
+        refusal: 0,
+        count: (counts.permanent - 1) as usize,
+    }
+}
+
+// How many records are active now; or refusal 5.
+pub fn current_object_count(t: Table) -> Count
+    ensures { λ r. ⌜ r ≡ currentAnswer t ⌝ }
+{
+    let counts = t.counts;
+    let records = t.records;
+    if !table::wholeness::is_whole(t) {
+        return Count {
+            refusal: table::refusals::TABLE_NOT_WHOLE,
+            count: 0,
+        };
+    }
+    Count {
+        refusal: 0,
+        count: active_count(records, counts.records),
+    }
+}
+
+// Not initializing, hit counter at least 0.
+fn is_active(o: tracked_object::TrackedObject) -> bool
+    ensures { λ r. ⌜ r ≡ active o ⌝ }
+{
+    let life = o.life;
+    laws::both(!life.is_initializing, 0 <= life.hit_counter)
+}
+
+// How many of the first n records are active.
+fn active_count(records: [tracked_object::TrackedObject; 64], n: usize) -> usize
+    requires { ⌜ n ≤ 64 ⌝ }
+    ensures { λ r. ⌜ r ≡ length (activeOf n records) ⌝ }
+{
+    let mut count = 0;
+    let mut i = 0;
+    while i < n {
+        let o = records[i];
+        if is_active(o) {
+            count += 1;
+        }
+        i += 1;
+    }
+    count
+}
