@@ -1,8 +1,8 @@
 -- Step 1's parts one after another: what was dropped to is found again by the sort and the prediction.
-use mathlib.Core.Path.{_≡_, refl, sym, _∙_, ap}
-use mathlib.Core.Bool.{Bool, true, false, not, cond}
+use mathlib.Core.Path.{_≡_, refl, sym, _∙_}
+use mathlib.Core.Bool.{Bool, true, false, cond}
 use mathlib.Core.List.{List, [], _∷_, _++_}
-use Prim.Native.Nat.{ℕ, zero, suc, _+_, _*_, _<_, _≤_}
+use Prim.Native.Nat.{ℕ, zero, suc, _*_, _<_, _≤_}
 use native.Mathlib.Nat.{mul-le-mul-right, le-trans, le-of-suc-le-suc}
 use native.Mathlib.Omega.{arith}
 use lib.Ieee.{Float}
@@ -15,11 +15,11 @@ use Rattle.tracked_object.specs.Layout.{blockSize}
 use Rattle.tracked_object.specs.Ranges.{ObjectInRange}
 use Rattle.table.specs.Making.{zeroObject}
 use Rattle.table.specs.Slots.{Slot, slots, objectsOf, recordsBack, floatsBack}
-use Rattle.table.proofs.SlotLaws.{slotAt, slots-suc, slots-back, records-front, records-at, records-again, floats-again}
+use Rattle.table.proofs.SlotLaws.{slotAt, slots-back, records-front, records-at, records-again, floats-again}
 use Rattle.predict.specs.declared.Kept.{Kept}
 use Rattle.predict.specs.declared.Sort.{Sort}
-use Rattle.predict.specs.Step.{gone, belongs, keptOf, keptRecords, keptFloats, placesOf, eachPredicted, AllInRange}
-use Rattle.predict.proofs.Dropping.{kept-most, kept-sized, kept-length}
+use Rattle.predict.specs.Step.{belongs, keptOf, keptRecords, keptFloats, placesOf, eachPredicted, AllInRange}
+use Rattle.predict.proofs.Dropping.{stays, kept-most, kept-sized, kept-length}
 use Rattle.predict.proofs.Predicting.{predicted-length}
 
 -- a test that agrees on every number below n keeps the same of them
@@ -74,7 +74,7 @@ module _ (c : TrackerConfig) (n : ℕ) (records : List TrackedObject) (s : List 
   kept-ranges all =
       let l = keptOf c n records s in
       let d : Slot = record { object = zeroObject; block = [] } in
-      let ranged = ranged-keep (λ (x : Slot). not (gone c (x .object))) (ranged-slots c (blockSize c) records s n all) in
+      let ranged = ranged-keep (stays c) (ranged-slots c (blockSize c) records s n all) in
       rw kept (λ i h. rw (records-at l records i zeroObject d h) (ranged-at i d ranged h))
 
   pub sorted : (sort : Sort) → placesOf c sort (k .count) (k .records) ≡ placesOf c sort (length (keptOf c n records s)) (objectsOf (keptOf c n records s))

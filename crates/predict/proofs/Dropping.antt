@@ -1,12 +1,12 @@
 -- Rule 30: record i of a table leaves, or moves down behind those kept before it, its block with it.
-use mathlib.Core.Path.{_≡_, refl, sym, _∙_, ap}
+use mathlib.Core.Path.{_≡_, sym, _∙_}
 use mathlib.Core.Bool.{Bool, true, false, not}
 use mathlib.Core.List.{List, [], _∷_, _++_}
 use Prim.Native.Nat.{ℕ, suc, _+_, _*_, _<_, _≤_}
 use native.Mathlib.Nat.{mul-le-mul-right, le-trans}
 use native.Mathlib.Omega.{arith}
 use lib.Ieee.{Float}
-use lib.ListN.{length, getD, take, drop, set, length-drop}
+use lib.ListN.{length, getD, drop, set, length-drop}
 use lib.Seq.{paste, length-take-le, take-take}
 use Rattle.laws.proofs.Growing.{length-keep, length-snoc}
 use Rattle.tracked_object.specs.declared.TrackerConfig.{TrackerConfig}
@@ -15,14 +15,17 @@ use Rattle.tracked_object.specs.Layout.{blockSize}
 use Rattle.table.specs.Making.{zeroObject}
 use Rattle.table.specs.Slots.{Slot, slots, recordsBack, floatsBack}
 use Rattle.table.proofs.SlotLaws.{Sized, sized-keep, slots-suc, slots-length, slots-sized, slotAt, block-fits, records-put, floats-length, floats-put, floats-behind}
-use Rattle.predict.specs.Step.{gone, keptSlots, keptOf}
+use Rattle.predict.specs.Step.{gone, keptOf}
 use Rattle.predict.proofs.Joining.{joins, stays-out}
 
+abbrev pub stays : TrackerConfig → Slot → Bool
+stays c x = not (gone c (x .object))
+
 -- what a turn that keeps record i leans on: where it and its block go, and that the block lies in the floats
-pub record Room (b : ℕ) (s f : List Float) (i k : ℕ) : Type 0 where
+pub record Room (size : ℕ) (s f : List Float) (i k : ℕ) : Type 0 where
   pub few : k ≤ i
-  pub down : k * b ≤ i * b
-  pub fits : i * b + b ≤ length s
+  pub down : k * size ≤ i * size
+  pub fits : i * size + size ≤ length s
   pub long : length f ≡ length s
 
 module _ (c : TrackerConfig) (records : List TrackedObject) (s : List Float) (i : ℕ) where
@@ -30,38 +33,38 @@ module _ (c : TrackerConfig) (records : List TrackedObject) (s : List Float) (i 
   kept-most =
       omega (
         arith,
-        length-keep (λ (x : Slot). not (gone c (x .object))) (slots (blockSize c) records s i),
+        length-keep (stays c) (slots (blockSize c) records s i),
         slots-length (blockSize c) records s i,
       )
 
   pub kept-sized : i * blockSize c ≤ length s → Sized (blockSize c) (keptOf c i records s)
-  kept-sized h = sized-keep (λ (x : Slot). not (gone c (x .object))) (slots-sized (blockSize c) records s i h)
+  kept-sized h = sized-keep (stays c) (slots-sized (blockSize c) records s i h)
 
   pub kept-length : i * blockSize c ≤ length s → length (floatsBack (blockSize c) (keptOf c i records s) s) ≡ length s
   kept-length h = floats-length (kept-sized h) s (le-trans (mul-le-mul-right (blockSize c) kept-most) h)
 
-  pub room : (n k : ℕ) (f : List Float) → i < n → n * blockSize c ≤ length s → k ≡ length (keptOf c i records s)
+  pub room : {size n k : ℕ} {f : List Float} → size ≡ blockSize c → i < n → n * blockSize c ≤ length s → k ≡ length (keptOf c i records s)
       → f ≡ floatsBack (blockSize c) (keptOf c i records s) s
-      → Room (blockSize c) s f i k
-  room n k f h whole count floats =
+      → Room size s f i k
+  room {size = size} {n = n} e h whole count floats =
       let fits = le-trans (block-fits (blockSize c) i n h) whole in
       record {
         few = rw count kept-most;
-        down = rw count (mul-le-mul-right (blockSize c) kept-most);
-        fits = fits;
+        down = rw count (mul-le-mul-right size kept-most);
+        fits = rw e fits;
         long = rw floats (kept-length (omega arith));
       }
 
   pub gone-turn : gone c (getD records i zeroObject) ≡ true → keptOf c (suc i) records s ≡ keptOf c i records s
   gone-turn e =
       rw (slots-suc (blockSize c) records s i)
-      (stays-out (λ (x : Slot). not (gone c (x .object))) (slots (blockSize c) records s i) (slotAt (blockSize c) records s i) (rw e))
+      (stays-out (stays c) (slots (blockSize c) records s i) (slotAt (blockSize c) records s i) (rw e))
 
   module _ (e : gone c (getD records i zeroObject) ≡ false) where
     kept-turn : keptOf c (suc i) records s ≡ keptOf c i records s ++ (slotAt (blockSize c) records s i ∷ [])
     kept-turn =
         rw (slots-suc (blockSize c) records s i)
-        (joins (λ (x : Slot). not (gone c (x .object))) (slots (blockSize c) records s i) (slotAt (blockSize c) records s i) (rw e))
+        (joins (stays c) (slots (blockSize c) records s i) (slotAt (blockSize c) records s i) (rw e))
 
     pub one-more : length (keptOf c (suc i) records s) ≡ suc (length (keptOf c i records s))
     one-more = rw kept-turn (length-snoc (keptOf c i records s) (slotAt (blockSize c) records s i))
@@ -75,14 +78,15 @@ module _ (c : TrackerConfig) (records : List TrackedObject) (s : List Float) (i 
         (sym (records-put (keptOf c i records s) records (slotAt (blockSize c) records s i) (omega (arith, kept-most))))
 
     -- the block is still where it was: those before it went no further up
-    pub block-moved : {k size : ℕ} {f g : List Float} → size ≡ blockSize c → Room (blockSize c) s f i k → k ≡ length (keptOf c i records s)
+    pub block-moved : {k size : ℕ} {f g : List Float} → size ≡ blockSize c → Room size s f i k → k ≡ length (keptOf c i records s)
         → f ≡ floatsBack (blockSize c) (keptOf c i records s) s
         → g ≡ paste f (k * size) (drop (i * size) f) size
         → g ≡ floatsBack (blockSize c) (keptOf c (suc i) records s) s
     block-moved e room count held moved =
         let b = blockSize c in
-        let sized = kept-sized (omega (arith, room .fits)) in
-        let long = length-take-le b (drop (i * b) s) (omega (arith, room .fits, length-drop (i * b) s)) in
+        let fits : i * b + b ≤ length s = rw e at (room .fits) in
+        let sized = kept-sized (omega arith) in
+        let long = length-take-le b (drop (i * b) s) (omega (arith, length-drop (i * b) s)) in
         let read = floats-behind sized s (i * b) (mul-le-mul-right b kept-most) in
         moved
         ∙ rw (e, count, held, read, kept-turn)

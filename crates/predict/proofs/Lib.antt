@@ -1,6 +1,7 @@
 -- Laws of step 1.
-pub mod Joining
-pub mod Reading
-pub mod Dropping
-pub mod Predicting
 pub mod Composing
+pub mod Dropping
+pub mod Joining
+pub mod Predicting
+pub mod Reading
+pub mod StepLaws

@@ -2,8 +2,8 @@
 use mathlib.Core.Bool.{Bool, true, false, not, _&&_}
 use mathlib.Core.List.{List, map}
 use Prim.Native.Nat.{ℕ, _+_, _*_, _<_, _≤_}
-use lib.IntN.{ℤ, pos, negsuc}
-use lib.ListN.{length, getD}
+use lib.IntN.{pos}
+use lib.ListN.{length, getD, take}
 use lib.Signed.{leZ, ltZ}
 use lib.Ieee.{Float}
 use Rattle.laws.specs.Lists.{below, keep}
@@ -132,8 +132,15 @@ predictFloats t s = floatsBack (blockSize (t .config)) (slotsAfter t s) s
 
 -- ---- the account: who was dropped, by initializing ID, in table order
 
+abbrev pub nameOf : TrackedObject → ℕ
+nameOf o = o .origin .«initializing_id»
+
 abbrev pub names : List Slot → List ℕ
-names l = map (λ s. s .object .origin .«initializing_id») l
+names l = map (λ s. nameOf (s .object)) l
+
+-- who is in a table
+abbrev pub tableNames : Table → List ℕ
+tableNames t = map nameOf (take (t .counts .records) (t .records))
 
 unfoldable pub dropped : Table → List Float → List ℕ
 dropped t s = names (keep (λ x. gone (t .config) (x .object)) (slotsBefore t s))

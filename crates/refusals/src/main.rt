@@ -72,6 +72,10 @@ fn makings() {
     make(b"delay 15 of 15, storage short", d, &storage[..29]);
     d.initialization_delay = -2;
     make(b"delay -2", d, &storage);
+    make(b"delay -2, storage short", d, &storage[..29]);
+    d.hit_counter_max = -4;
+    make(b"delay -2 of -4", d, &storage);
+    d.hit_counter_max = 15;
     d.points = 17;
     make(b"delay -2, 17 points", d, &storage);
     d.initialization_delay = 15;
@@ -216,4 +220,9 @@ fn lists() {
     let mut long = two(0, 1);
     long.count = 65;
     step(b"a list longer than its array", listed(fresh, long), 30);
+    step(
+        b"a list that names a record twice, frames used up",
+        listed(framed(fresh, 200000000), two(1, 1)),
+        30,
+    );
 }

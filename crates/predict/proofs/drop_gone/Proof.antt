@@ -1,17 +1,13 @@
 -- `predict::drop_gone` meets its contract: in front stand the records below i that stay, with their blocks, and behind them what was there.
 use mathlib.Core.Path.{_≡_, refl, sym, _∙_, ap}
-use mathlib.Core.Bool.{true, false}
-use mathlib.Core.List.{List, [], _∷_}
-use Prim.Native.Nat.{ℕ, suc, _≤_, _<_, _+_, _-_, _*_}
+use Prim.Native.Nat.{suc, _≤_, _-_}
 use native.Mathlib.Nat.{zero-mul, mul-le-mul-right, le-trans}
 use native.Mathlib.Omega.{arith}
 use native.Mathlib.Numerals.{add-one}
 use borrow.Author.Needs.{needs}
-use lib.ListN.{length, getD, drop, set}
-use lib.Seq.{paste}
+use lib.ListN.{length, getD}
 use Rattle.tracked_object.specs.declared.block.Layout.{Layout}
 use Rattle.tracked_object.specs.Layout.{blockSize}
-use Rattle.tracked_object.proofs.Bounds.{block-most}
 use Rattle.laws.specs.Lists.{keep}
 use Rattle.table.specs.Making.{zeroObject}
 use Rattle.table.specs.Slots.{slots, blocksOf, recordsBack, floatsBack}
@@ -75,13 +71,15 @@ loop-again c =
     let e = gone-turn (a .config) (a .t2) (a .s .now) (l .loop .i) (sym (answered (c .before)) ∙ c .if1 .taken) in
     (search needs, rw (add-one, e) (l .loop .inv .1), rw (add-one, e) (l .loop .inv .2), rw (add-one, e) (l .loop .inv .3))
 
+abbrev size-of : (l : tie.At-loop Inv-loop μ-loop) → l .before .layout-of .result .size ≡ blockSize (given l .args .config)
+size-of l = ap (λ (r : Layout). r .size) (l .before .layout-of .ensures)
+
 space : (c : tie.In-loop Inv-loop μ-loop)
-    → let l = c .before in
-    Room (blockSize (given l .args .config)) (given l .args .s .now) (l .loop .s) (l .loop .i) (l .loop .k)
+    → let l = c .before in Room (l .before .layout-of .result .size) (given l .args .s .now) (l .loop .s) (l .loop .i) (l .loop .k)
 space c =
     let l = c .before in
     let a = given l .args in
-    room (a .config) (a .t2) (a .s .now) (l .loop .i) (a .n) (l .loop .k) (l .loop .s) (c .loop-test .taken) (given l .pre .2) (l .loop .inv .1) (l .loop .inv .3)
+    room (a .config) (a .t2) (a .s .now) (l .loop .i) (size-of l) (c .loop-test .taken) (given l .pre .2) (l .loop .inv .1) (l .loop .inv .3)
 
 mul-kept : tie.Need-mul-kept Inv-loop μ-loop
 mul-kept c = let h = space (c .before .before .before) in record { fits = omega arith }
@@ -91,20 +89,14 @@ array-set-from-kept c = let h = space (c .before .before .before) in omega arith
 
 mul-move-down : tie.Need-mul-move-down Inv-loop μ-loop
 mul-move-down c =
-    let l = c .before .before .before .before .before in
-    let h = space (c .before .before .before .before) in
-    rw (l .before .layout-of .ensures) record { fits = omega (arith, h, given l .good .1 .1 .1 .0 .0) }
+    record { fits = omega (arith, space (c .before .before .before .before), given (c .before .before .before .before .before) .good .1 .1 .1 .0 .0) }
 
 mul-move-down-2 : tie.Need-mul-move-down-2 Inv-loop μ-loop
 mul-move-down-2 c =
-    let l = c .before .before .before .before .before in
-    let h = space (c .before .before .before .before) in
-    rw (l .before .layout-of .ensures) record { fits = omega (arith, h, given l .good .1 .1 .1 .0 .0) }
+    record { fits = omega (arith, space (c .before .before .before .before), given (c .before .before .before .before .before) .good .1 .1 .1 .0 .0) }
 
 move-down-requires : tie.Need-move-down-requires Inv-loop μ-loop
-move-down-requires c κs =
-    let h = space (c .before .before .before .before) in
-    rw (c .before .before .before .before .before .before .layout-of .ensures, h .long) (h .down, h .fits)
+move-down-requires c κs = let h = space (c .before .before .before .before) in rw (h .long) (omega arith, omega arith)
 
 add-k : tie.Need-add-k Inv-loop μ-loop
 add-k c = let h = space (c .before .before .before .before .before .before .before) in record { fits = omega arith }
@@ -121,13 +113,12 @@ loop-again-2 c =
     let t = moved .before .before .before .before .before in
     let l = t .before in
     let a = given l .args in
-    let size = ap (λ (r : Layout). r .size) (l .before .layout-of .ensures) in
     let stays = sym (answered (moved .before .before .before)) ∙ moved .before .before .if1 .left in
     let all : length (a .t2) ≡ 64 = given l .good .1 .0 .1 .0 .1 in (
       search needs,
-      rw (add-one, add-one, one-more (a .config) (a .t2) (a .s .now) (l .loop .i) stays) (ap suc (l .loop .inv .1)),
+      rw (add-one (l .loop .k), add-one (l .loop .i), one-more (a .config) (a .t2) (a .s .now) (l .loop .i) stays) (ap suc (l .loop .inv .1)),
       rw add-one (record-moved (a .config) (a .t2) (a .s .now) (l .loop .i) stays (omega arith) (l .loop .inv .1) (l .loop .inv .2) (here t)),
-      rw add-one (block-moved (a .config) (a .t2) (a .s .now) (l .loop .i) stays size (space t) (l .loop .inv .1) (l .loop .inv .3) (moved .move-down .ensures)),
+      rw add-one (block-moved (a .config) (a .t2) (a .s .now) (l .loop .i) stays (size-of l) (space t) (l .loop .inv .1) (l .loop .inv .3) (moved .move-down .ensures)),
     )
 
 same-length : tie.Need-same-length Inv-loop μ-loop

@@ -1,13 +1,12 @@
 -- `predict::predict_each` meets its contract: in front stand the records below i, predicted, with their blocks, and behind them what was there.
 use mathlib.Core.Path.{_≡_, refl, sym, _∙_, ap}
-use mathlib.Core.List.{List, [], _∷_}
-use Prim.Native.Nat.{ℕ, suc, _≤_, _<_, _+_, _-_, _*_}
-use native.Mathlib.Nat.{zero-mul, mul-le-mul-right, le-trans}
+use Prim.Native.Nat.{_≤_, _+_, _-_, _*_}
+use native.Mathlib.Nat.{zero-mul}
 use native.Mathlib.Omega.{arith}
 use native.Mathlib.Numerals.{add-one}
 use borrow.Author.Needs.{needs}
 use borrow.Rule.Slice.PartAt.{part-count}
-use lib.ListN.{length, getD, drop, set}
+use lib.ListN.{length, getD}
 use Rattle.tracked_object.specs.declared.block.Layout.{Layout}
 use Rattle.tracked_object.specs.Layout.{blockSize}
 use Rattle.tracked_object.specs.Object.{objectPredicted}

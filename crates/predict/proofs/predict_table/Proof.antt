@@ -1,5 +1,5 @@
 -- `predict::predict_table` meets its contract: the sort and the prediction find the slots that the drop put back.
-use mathlib.Core.Path.{_≡_, refl, sym, _∙_, ap}
+use mathlib.Core.Path.{_∙_, ap}
 use Prim.Native.Nat.{_≤_}
 use native.Mathlib.Omega.{arith}
 use borrow.Author.Needs.{needs}

@@ -1,0 +1,203 @@
+-- Rules 30 to 33: step 1's account is fair, it touches only the floats of its records, and its lists name each place once.
+use mathlib.Core.Path.{_≡_, refl, sym, _∙_, ap}
+use mathlib.Core.Logic.{⊎-elim}
+use mathlib.Core.Bool.{Bool, true, false, not, cond, _&&_, _||_, and-true, and-false}
+use mathlib.Core.List.{List, [], _∷_, _++_, map}
+use Prim.Native.Nat.{ℕ, zero, suc, _+_, _-_, _*_, _<_, _≤_}
+use native.Mathlib.Nat.{mul-le-mul-right, le-trans, eq-or-lt-of-le}
+use native.Mathlib.Omega.{arith}
+use borrow.Author.Tests.{ltb-true, ltb-false, lt-ltb, le-ltb, eqb-true, eqb-false}
+use lib.Dec.{eqb, ltb}
+use lib.Ieee.{Float}
+use lib.ListN.{length, getD, take, drop, replicate}
+use lib.Seq.{take-at, take-append-seam}
+use Rattle.laws.specs.Lists.{below, keep, any, holds, times}
+use Rattle.laws.proofs.Growing.{keep-snoc}
+use Rattle.matching.specs.declared.Numbers.{Numbers}
+use Rattle.tracked_object.specs.declared.TrackerConfig.{TrackerConfig}
+use Rattle.tracked_object.specs.Layout.{blockSize}
+use Rattle.tracked_object.specs.Object.{objectPredicted}
+use Rattle.table.specs.declared.Table.{Table}
+use Rattle.table.specs.declared.Lists.{Lists}
+use Rattle.table.specs.Making.{zeroObject}
+use Rattle.table.specs.Slots.{Slot, objectsOf}
+use Rattle.table.proofs.SlotLaws.{Sized, objects-length, slots-objects, floats-length, floats-behind}
+use Rattle.predict.specs.declared.Sort.{Sort}
+use Rattle.predict.specs.declared.Sort.the-variants.{Alive, Initializing, Dead}
+use Rattle.predict.specs.Step.{gone, belongs, placesOf, eachPredicted, slotsBefore, slotsKept, slotsAfter, predictTable, predictFloats, names, nameOf, tableNames, dropped}
+use Rattle.predict.proofs.Dropping.{kept-most, kept-sized}
+use Rattle.predict.proofs.Predicting.{predicted-length, predicted-sized}
+
+-- ---- the account
+
+names-objects : (l : List Slot) → map nameOf (objectsOf l) ≡ names l
+names-objects [] = refl
+names-objects (x ∷ l) = ap (λ (r : List ℕ). nameOf (x .object) ∷ r) (names-objects l)
+
+-- predicting renames nobody
+names-predicted : (c : TrackerConfig) (l : List Slot) → names (eachPredicted c l) ≡ names l
+unfolding objectPredicted
+names-predicted c [] = refl
+names-predicted c (x ∷ l) = ap (λ (r : List ℕ). nameOf (x .object) ∷ r) (names-predicted c l)
+
+-- those that stay and those that leave are all of them
+parted : (x : ℕ) (p : Slot → Bool) (l : List Slot) → times x (names l) ≡ times x (names (keep (λ y. not (p y)) l)) + times x (names (keep p l))
+unfolding keep times
+parted x p [] = refl
+parted x p (y ∷ l) = go (p y) (keep (λ z. not (p z)) l) (keep p l) (parted x p l)
+  where
+    go : (b : Bool) (stay leave : List Slot) → times x (names l) ≡ times x (names stay) + times x (names leave)
+        → times x (names (y ∷ l)) ≡ times x (names (cond (not b) (y ∷ stay) stay)) + times x (names (cond b (y ∷ leave) leave))
+    go true stay leave e = omega arith
+    go false stay leave e = omega arith
+
+module _ (t : Table) (s : List Float) where
+  pub names-kept : tableNames (predictTable t s) ≡ names (slotsKept t s)
+  unfolding predictTable
+  names-kept =
+      let after = slotsAfter t s in
+      let long = objects-length after ∙ predicted-length (t .config) (slotsKept t s) in
+      rw (take-at (objectsOf after) (drop (length after) (t .records)) (length (slotsKept t s)) long)
+      (names-objects after ∙ names-predicted (t .config) (slotsKept t s))
+
+  -- who is in the table after, and who was dropped: exactly who was in it before, as often
+  pub fair : t .counts .records ≤ length (t .records) → (x : ℕ)
+      → times x (tableNames t) ≡ times x (tableNames (predictTable t s)) + times x (dropped t s)
+  unfolding dropped
+  fair h x =
+      rw (names-kept, ← slots-objects (blockSize (t .config)) (t .records) s (t .counts .records) h, names-objects (slotsBefore t s))
+      (parted x (λ y. gone (t .config) (y .object)) (slotsBefore t s))
+
+-- ---- the floats
+
+module _ (t : Table) (s : List Float) (room : t .counts .records * blockSize (t .config) ≤ length s) where
+  after-sized : Sized (blockSize (t .config)) (slotsAfter t s)
+  after-sized = predicted-sized (t .config) (kept-sized (t .config) (t .records) s (t .counts .records) room)
+
+  after-most : length (slotsAfter t s) * blockSize (t .config) ≤ t .counts .records * blockSize (t .config)
+  after-most = rw (predicted-length (t .config) (slotsKept t s)) (mul-le-mul-right (blockSize (t .config)) (kept-most (t .config) (t .records) s (t .counts .records)))
+
+  pub length-kept : length (predictFloats t s) ≡ length s
+  unfolding predictFloats
+  length-kept = floats-length after-sized s (le-trans after-most room)
+
+  pub rest-untouched : (k : ℕ) → t .counts .records * blockSize (t .config) ≤ k → drop k (predictFloats t s) ≡ drop k s
+  unfolding predictFloats
+  rest-untouched k h = floats-behind after-sized s k (le-trans after-most h)
+
+-- ---- the lists
+
+abbrev pub listOf : Sort → Lists → Numbers
+listOf Alive l = l .alive
+listOf Initializing l = l .initializing
+listOf Dead l = l .dead
+
+-- the numbers of a list, without what pads it
+abbrev pub numbersIn : Numbers → List ℕ
+numbersIn m = take (m .count) (m .at)
+
+times-added : (x y : ℕ) (b : Bool) (l : List ℕ) → times x (l ++ cond b (y ∷ []) []) ≡ times x l + cond (b && eqb y x) 1 0
+unfolding times
+times-added x y true [] = omega arith
+times-added x y false [] = refl
+times-added x y b (z ∷ l) = rw (times-added x y b l) (omega arith)
+
+-- past n nothing is new but n
+one-further : (x n : ℕ) → eqb n x ≡ false → ltb x (suc n) ≡ ltb x n
+one-further x n e = go (ltb x n) refl
+  where
+    go : (b : Bool) → ltb x n ≡ b → ltb x (suc n) ≡ b
+    go true h = lt-ltb x (suc n) (omega (arith, ltb-true x n h))
+    go false h = ⊎-elim (λ (q : n ≡ x). absurd (eqb-false n x e q)) (λ (q : n < x). le-ltb x (suc n) q) (eq-or-lt-of-le (ltb-false x n h))
+
+next-place : (p : ℕ → Bool) (x n : ℕ) → cond (ltb x n && p x) 1 0 + cond (p n && eqb n x) 1 0 ≡ cond (ltb x (suc n) && p x) 1 0
+next-place p x n = go (eqb n x) refl
+  where
+    go : (b : Bool) → eqb n x ≡ b → cond (ltb x n && p x) 1 0 + cond (p n && b) 1 0 ≡ cond (ltb x (suc n) && p x) 1 0
+    go true e = let q : n ≡ x = eqb-true n x e in rw (q, le-ltb x x (omega arith), lt-ltb x (suc x) (omega arith), and-true (p x)) (omega arith)
+    go false e = rw (one-further x n e, and-false (p n)) (omega arith)
+
+-- a place below the count stands in the list once if its record belongs there, and nothing else does
+times-below : (p : ℕ → Bool) (x n : ℕ) → times x (keep p (below n)) ≡ cond (ltb x n && p x) 1 0
+unfolding below keep times
+times-below p x zero = rw (le-ltb x 0 (omega arith))
+times-below p x (suc n) = rw (keep-snoc p (below n) n, times-added x n (p n) (keep p (below n)), times-below p x n) (next-place p x n)
+
+holds-times : (x : ℕ) (l : List ℕ) → holds x l ≡ ltb 0 (times x l)
+unfolding any times
+holds-times x [] = refl
+holds-times x (y ∷ l) = go (eqb y x) (holds-times x l)
+  where
+    go : (b : Bool) → holds x l ≡ ltb 0 (times x l) → (b || holds x l) ≡ ltb 0 (cond b 1 0 + times x l)
+    go true e = sym (lt-ltb 0 (1 + times x l) (omega arith))
+    go false e = let n : times x l ≡ 0 + times x l = omega arith in rw n at e
+
+above-zero : (b : Bool) → ltb 0 (cond b 1 0) ≡ b
+above-zero true = refl
+above-zero false = refl
+
+first : (a b : Bool) → (a && b) ≡ true → a ≡ true
+first true b h = refl
+first false b h = h
+
+at-most-one : (b : Bool) → cond b 1 0 ≤ 1
+at-most-one true = omega arith
+at-most-one false = omega arith
+
+is-placed : (t : Table) (s : List Float) (sort : Sort)
+    → listOf sort (predictTable t s .lists) ≡ placesOf (t .config) sort (length (slotsKept t s)) (objectsOf (slotsKept t s))
+unfolding predictTable
+is-placed t s Alive = refl
+is-placed t s Initializing = refl
+is-placed t s Dead = refl
+
+module _ (t : Table) (s : List Float) (sort : Sort) where
+  abbrev pub listed : List ℕ
+  listed = numbersIn (listOf sort (predictTable t s .lists))
+
+  -- by the record at the place, before its counters fall
+  abbrev pub fitting : ℕ → Bool
+  fitting i = belongs (t .config) sort (getD (objectsOf (slotsKept t s)) i zeroObject)
+
+  -- ascending: of 0, 1 and so on below the new count, those that fit
+  pub in-order : listed ≡ keep fitting (below (predictTable t s .counts .records))
+  unfolding predictTable
+  in-order =
+      let l = keep fitting (below (length (slotsKept t s))) in
+      rw (is-placed t s sort) (take-append-seam l (replicate (64 - length l) 0))
+
+  listed-times : (x : ℕ) → times x listed ≡ cond (ltb x (predictTable t s .counts .records) && fitting x) 1 0
+  listed-times x = ap (times x) in-order ∙ times-below fitting x (predictTable t s .counts .records)
+
+  pub membership : (i : ℕ) → holds i listed ≡ (ltb i (predictTable t s .counts .records) && fitting i)
+  membership i = holds-times i listed ∙ ap (ltb 0) (listed-times i) ∙ above-zero (ltb i (predictTable t s .counts .records) && fitting i)
+
+  pub listed-once : (x : ℕ) → times x listed ≤ 1
+  listed-once x = rw (listed-times x) (at-most-one (ltb x (predictTable t s .counts .records) && fitting x))
+
+  pub listed-below : (i : ℕ) → holds i listed ≡ true → i < predictTable t s .counts .records
+  listed-below i h =
+      ltb-true i (predictTable t s .counts .records) (first (ltb i (predictTable t s .counts .records)) (fitting i) (sym (membership i) ∙ h))
+
+-- ---- the counts
+
+module _ (t : Table) (s : List Float) where
+  pub frames-rise : predictTable t s .counts .frames ≡ t .counts .frames + 1
+  unfolding predictTable
+  frames-rise = refl
+
+  pub opened-stay : predictTable t s .counts .opened ≡ t .counts .opened
+  unfolding predictTable
+  opened-stay = refl
+
+  pub permanent-stay : predictTable t s .counts .permanent ≡ t .counts .permanent
+  unfolding predictTable
+  permanent-stay = refl
+
+  pub global-stay : predictTable t s .counts .global ≡ t .counts .global
+  unfolding predictTable
+  global-stay = refl
+
+  pub initializing-stay : predictTable t s .counts .initializing ≡ t .counts .initializing
+  unfolding predictTable
+  initializing-stay = refl
