@@ -4,9 +4,9 @@ ghost use Prim.Native.Nat.{_≤_};
 ghost use lib.Signed.{mag};
 use filter::FilterSettings;
 use libc::STDOUT_FILENO;
-use tracked_object::PastDetection;
-use tracked_object::ReidCounter;
-use tracked_object::TrackerConfig;
+use parts::PastDetection;
+use parts::ReidCounter;
+use parts::TrackerConfig;
 use tracked_object::merging;
 use tracked_object::merging::Marks;
 

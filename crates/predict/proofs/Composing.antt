@@ -9,10 +9,10 @@ use lib.Ieee.{Float}
 use lib.ListN.{length, getD}
 use Rattle.laws.specs.Lists.{below, keep}
 use Rattle.laws.proofs.Growing.{keep-snoc}
-use Rattle.tracked_object.specs.declared.TrackerConfig.{TrackerConfig}
-use Rattle.tracked_object.specs.declared.TrackedObject.{TrackedObject}
-use Rattle.tracked_object.specs.Layout.{blockSize}
-use Rattle.tracked_object.specs.Ranges.{ObjectInRange}
+use Rattle.parts.specs.declared.TrackerConfig.{TrackerConfig}
+use Rattle.parts.specs.declared.TrackedObject.{TrackedObject}
+use Rattle.parts.specs.Layout.{blockSize}
+use Rattle.parts.specs.Ranges.{ObjectInRange}
 use Rattle.table.specs.Making.{zeroObject}
 use Rattle.table.specs.Slots.{Slot, slots, objectsOf, recordsBack, floatsBack}
 use Rattle.table.proofs.SlotLaws.{slotAt, slots-back, records-front, records-at, records-again, floats-again}

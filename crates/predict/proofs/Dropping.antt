@@ -9,9 +9,9 @@ use lib.Ieee.{Float}
 use lib.ListN.{length, getD, drop, set, length-drop}
 use lib.Seq.{paste, length-take-le, take-take}
 use Rattle.laws.proofs.Growing.{length-keep, length-snoc}
-use Rattle.tracked_object.specs.declared.TrackerConfig.{TrackerConfig}
-use Rattle.tracked_object.specs.declared.TrackedObject.{TrackedObject}
-use Rattle.tracked_object.specs.Layout.{blockSize}
+use Rattle.parts.specs.declared.TrackerConfig.{TrackerConfig}
+use Rattle.parts.specs.declared.TrackedObject.{TrackedObject}
+use Rattle.parts.specs.Layout.{blockSize}
 use Rattle.table.specs.Making.{zeroObject}
 use Rattle.table.specs.Slots.{Slot, slots, recordsBack, floatsBack}
 use Rattle.table.proofs.SlotLaws.{Sized, sized-keep, slots-suc, slots-length, slots-sized, slotAt, block-fits, records-put, floats-length, floats-put, floats-behind}

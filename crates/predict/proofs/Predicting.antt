@@ -7,9 +7,9 @@ use native.Mathlib.Omega.{arith}
 use lib.Ieee.{Float}
 use lib.ListN.{length, getD, take, drop, set, length-drop, length-map}
 use lib.Seq.{paste, length-take-le, take-all, drop-drop}
-use Rattle.tracked_object.specs.declared.TrackerConfig.{TrackerConfig}
-use Rattle.tracked_object.specs.declared.TrackedObject.{TrackedObject}
-use Rattle.tracked_object.specs.Layout.{blockSize}
+use Rattle.parts.specs.declared.TrackerConfig.{TrackerConfig}
+use Rattle.parts.specs.declared.TrackedObject.{TrackedObject}
+use Rattle.parts.specs.Layout.{blockSize}
 use Rattle.tracked_object.specs.Object.{objectPredicted, blockPredicted}
 use Rattle.tracked_object.proofs.ObjectLaws.{length-predicted}
 use Rattle.table.specs.Making.{zeroObject}

@@ -6,10 +6,10 @@ use Prim.Native.Nat.{ℕ, _<_}
 use lib.IntN.{pos}
 use lib.ListN.{length, getD}
 use Rattle.laws.proofs.Elements.{getD-any}
-use Rattle.tracked_object.specs.declared.TrackedObject.{TrackedObject}
-use Rattle.tracked_object.specs.declared.ReidCounter.the-variants.{Absent}
-use Rattle.tracked_object.specs.declared.PermanentId.the-variants.{Unissued}
-use Rattle.tracked_object.specs.declared.LastDistance.the-variants.{Never}
+use Rattle.parts.specs.declared.TrackedObject.{TrackedObject}
+use Rattle.parts.specs.declared.ReidCounter.the-variants.{Absent}
+use Rattle.parts.specs.declared.PermanentId.the-variants.{Unissued}
+use Rattle.parts.specs.declared.LastDistance.the-variants.{Never}
 use Rattle.table.specs.Making.{zeroObject}
 
 abbrev pub blank : TrackedObject

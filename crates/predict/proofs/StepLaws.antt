@@ -14,8 +14,8 @@ use lib.Seq.{take-at, take-append-seam}
 use Rattle.laws.specs.Lists.{below, keep, any, holds, times}
 use Rattle.laws.proofs.Growing.{keep-snoc}
 use Rattle.matching.specs.declared.Numbers.{Numbers}
-use Rattle.tracked_object.specs.declared.TrackerConfig.{TrackerConfig}
-use Rattle.tracked_object.specs.Layout.{blockSize}
+use Rattle.parts.specs.declared.TrackerConfig.{TrackerConfig}
+use Rattle.parts.specs.Layout.{blockSize}
 use Rattle.tracked_object.specs.Object.{objectPredicted}
 use Rattle.table.specs.declared.Table.{Table}
 use Rattle.table.specs.declared.Lists.{Lists}

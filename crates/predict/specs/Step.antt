@@ -9,12 +9,12 @@ use lib.Ieee.{Float}
 use Rattle.laws.specs.Lists.{below, keep}
 use Rattle.matching.specs.declared.Numbers.{Numbers}
 use Rattle.matching.specs.Unmatched.{numbersOf}
-use Rattle.tracked_object.specs.declared.TrackerConfig.{TrackerConfig}
-use Rattle.tracked_object.specs.declared.TrackedObject.{TrackedObject}
-use Rattle.tracked_object.specs.declared.ReidCounter.{ReidCounter}
-use Rattle.tracked_object.specs.declared.ReidCounter.the-variants.{Absent, Present}
-use Rattle.tracked_object.specs.Layout.{blockSize}
-use Rattle.tracked_object.specs.Ranges.{Sizes, ObjectInRange}
+use Rattle.parts.specs.declared.TrackerConfig.{TrackerConfig}
+use Rattle.parts.specs.declared.TrackedObject.{TrackedObject}
+use Rattle.parts.specs.declared.ReidCounter.{ReidCounter}
+use Rattle.parts.specs.declared.ReidCounter.the-variants.{Absent, Present}
+use Rattle.parts.specs.Layout.{blockSize}
+use Rattle.parts.specs.Ranges.{Sizes, ObjectInRange}
 use Rattle.tracked_object.specs.Object.{objectPredicted, blockPredicted}
 use Rattle.table.specs.declared.Table.{Table}
 use Rattle.table.specs.declared.Phase.the-variants.{Match}

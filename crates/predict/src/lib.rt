@@ -2,21 +2,21 @@
 ghost use mathlib.Core.Path.{_≡_};
 ghost use Prim.Native.Nat.{_≤_, _*_};
 ghost use lib.ListN.{length};
-ghost use Rattle.tracked_object.specs.Layout.{blockSize};
-ghost use Rattle.tracked_object.specs.Ranges.{Sizes};
+ghost use Rattle.parts.specs.Layout.{blockSize};
+ghost use Rattle.parts.specs.Ranges.{Sizes};
 ghost use Rattle.table.specs.Slots.{slots, recordsBack, floatsBack};
 ghost use Rattle.predict.specs.Step.{gone, belowZero, hasMaximum, belongs, keptSlots, keptRecords, keptFloats, placesOf, eachPredicted, AllInRange, Ready, predictTable, predictFloats};
 use matching::Numbers;
+use parts::ReidCounter;
+use parts::TrackedObject;
+use parts::TrackerConfig;
+use parts::block;
+use parts::past;
 use table::Counts;
 use table::Lists;
 use table::Phase;
 use table::Table;
 use table::making;
-use tracked_object::ReidCounter;
-use tracked_object::TrackedObject;
-use tracked_object::TrackerConfig;
-use tracked_object::block;
-use tracked_object::past;
 
 // The three lists of step 1.
 pub enum Sort {

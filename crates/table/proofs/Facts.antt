@@ -11,13 +11,13 @@ use lib.ListN.{length, take, getD}
 use lib.Signed.{mag, leZ}
 use Rattle.laws.specs.Lists.{holds}
 use Rattle.matching.specs.declared.Numbers.{Numbers}
-use Rattle.tracked_object.specs.declared.ReidCounter.{ReidCounter}
-use Rattle.tracked_object.specs.declared.ReidCounter.the-variants.{Absent, Present}
-use Rattle.tracked_object.specs.declared.TrackedObject.{TrackedObject}
-use Rattle.tracked_object.specs.declared.TrackerConfig.{TrackerConfig}
-use Rattle.tracked_object.specs.Layout.{blockSize}
-use Rattle.tracked_object.specs.Ranges.{Sizes, ReidInRange, PointsInRange, unaged, ObjectInRange}
-use Rattle.tracked_object.proofs.Bounds.{coords-most, width-most, history-most}
+use Rattle.parts.specs.declared.ReidCounter.{ReidCounter}
+use Rattle.parts.specs.declared.ReidCounter.the-variants.{Absent, Present}
+use Rattle.parts.specs.declared.TrackedObject.{TrackedObject}
+use Rattle.parts.specs.declared.TrackerConfig.{TrackerConfig}
+use Rattle.parts.specs.Layout.{blockSize}
+use Rattle.parts.specs.Ranges.{Sizes, ReidInRange, PointsInRange, unaged, ObjectInRange}
+use Rattle.parts.proofs.Bounds.{coords-most, width-most, history-most}
 use Rattle.table.specs.declared.Counts.{Counts}
 use Rattle.table.specs.declared.Table.{Table}
 use Rattle.table.specs.Ranges.{between, signedBetween, reidBetween, settingsInRange, delayNegative, delayTooLong}

@@ -5,7 +5,7 @@ use Prim.Native.Nat.{ℕ}
 use native.Mathlib.Omega.{arith}
 use borrow.Author.Tests.{eq-eqb, ne-eqb, le-leb, not-false}
 use Rattle.laws.specs.Lists.{any}
-use Rattle.tracked_object.specs.declared.TrackerConfig.{TrackerConfig}
+use Rattle.parts.specs.declared.TrackerConfig.{TrackerConfig}
 use Rattle.table.specs.Ranges.{settingsInRange, delayNegative, delayTooLong}
 use Rattle.table.specs.Refusals.{firstDue, makingChecks}
 use Rattle.table.specs.Wholeness.{countsWhole, recordsWhole, namesBelow, listsWhole, wholeTable}

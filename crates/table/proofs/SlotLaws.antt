@@ -14,7 +14,7 @@ use Rattle.laws.proofs.Elements.{getD-any}
 use Rattle.laws.proofs.Growing.{length-snoc}
 use Rattle.laws.proofs.Fronts.{front-length, front-behind, front-getD-behind, front-set, front-put, front-paste, drop-take, take-fewer}
 use Rattle.laws.proofs.Mapped.{map-set}
-use Rattle.tracked_object.specs.declared.TrackedObject.{TrackedObject}
+use Rattle.parts.specs.declared.TrackedObject.{TrackedObject}
 use Rattle.table.specs.Making.{zeroObject}
 use Rattle.table.specs.Slots.{Slot, slots, objectsOf, blocksOf, recordsBack, floatsBack}
 

@@ -6,7 +6,7 @@ use lib.Dec.{eqb}
 use lib.IntN.{ℤ, pos, negsuc}
 use lib.Signed.{mag}
 use Rattle.laws.specs.Worked.{Worked}
-use Rattle.tracked_object.specs.declared.TrackerConfig.{TrackerConfig}
+use Rattle.parts.specs.declared.TrackerConfig.{TrackerConfig}
 use Rattle.table.specs.declared.Answer.{Answer}
 use Rattle.table.specs.Refusals.{storageNeed}
 use Rattle.table.specs.Making.{zeroConfig, made}

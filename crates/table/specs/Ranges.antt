@@ -4,9 +4,9 @@ use Prim.Native.Nat.{ℕ}
 use lib.Dec.{leb}
 use lib.IntN.{ℤ, pos, negsuc}
 use lib.Signed.{leZ, ltZ}
-use Rattle.tracked_object.specs.declared.TrackerConfig.{TrackerConfig}
-use Rattle.tracked_object.specs.declared.ReidCounter.{ReidCounter}
-use Rattle.tracked_object.specs.declared.ReidCounter.the-variants.{Absent, Present}
+use Rattle.parts.specs.declared.TrackerConfig.{TrackerConfig}
+use Rattle.parts.specs.declared.ReidCounter.{ReidCounter}
+use Rattle.parts.specs.declared.ReidCounter.the-variants.{Absent, Present}
 
 abbrev pub between : ℕ → ℕ → ℕ → Bool
 between low x high = leb low x && leb x high

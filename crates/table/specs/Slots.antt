@@ -3,7 +3,7 @@ use mathlib.Core.List.{List, [], _∷_, _++_, map}
 use Prim.Native.Nat.{ℕ, zero, suc, _+_, _*_}
 use lib.ListN.{length, getD, take, drop}
 use lib.Ieee.{Float}
-use Rattle.tracked_object.specs.declared.TrackedObject.{TrackedObject}
+use Rattle.parts.specs.declared.TrackedObject.{TrackedObject}
 use Rattle.table.specs.Making.{zeroObject}
 
 pub record Slot : Type 0 where

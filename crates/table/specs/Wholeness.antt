@@ -7,9 +7,9 @@ use lib.IntN.{ℤ, pos, negsuc}
 use lib.ListN.{length, getD, take}
 use Rattle.laws.specs.Lists.{any, holds}
 use Rattle.matching.specs.declared.Numbers.{Numbers}
-use Rattle.tracked_object.specs.declared.TrackerConfig.{TrackerConfig}
-use Rattle.tracked_object.specs.declared.TrackedObject.{TrackedObject}
-use Rattle.tracked_object.specs.declared.PastDetection.{PastDetection}
+use Rattle.parts.specs.declared.TrackerConfig.{TrackerConfig}
+use Rattle.parts.specs.declared.TrackedObject.{TrackedObject}
+use Rattle.parts.specs.declared.PastDetection.{PastDetection}
 use Rattle.table.specs.declared.Counts.{Counts}
 use Rattle.table.specs.declared.Lists.{Lists}
 use Rattle.table.specs.declared.Table.{Table}

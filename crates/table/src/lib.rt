@@ -6,8 +6,8 @@ pub mod refusals;
 pub mod wholeness;
 
 use matching::Numbers;
-use tracked_object::TrackedObject;
-use tracked_object::TrackerConfig;
+use parts::TrackedObject;
+use parts::TrackerConfig;
 
 // Which step is next.
 pub enum Phase {

@@ -14,16 +14,16 @@ use crate::refusals;
 use crate::wholeness;
 use filter::FilterSettings;
 use matching::Numbers;
-use tracked_object::Last;
-use tracked_object::LastDistance;
-use tracked_object::Life;
-use tracked_object::Origin;
-use tracked_object::PastDetection;
-use tracked_object::PermanentId;
-use tracked_object::ReidCounter;
-use tracked_object::TrackedObject;
-use tracked_object::TrackerConfig;
-use tracked_object::block;
+use parts::Last;
+use parts::LastDistance;
+use parts::Life;
+use parts::Origin;
+use parts::PastDetection;
+use parts::PermanentId;
+use parts::ReidCounter;
+use parts::TrackedObject;
+use parts::TrackerConfig;
+use parts::block;
 
 // A delay of -1 becomes half the maximum, toward zero.
 fn settled_delay(maximum: i32, delay: i32) -> i32

@@ -1,8 +1,8 @@
 // Rules 3 and 14: whether a number lies in its range.
 ghost use mathlib.Core.Path.{_≡_};
 ghost use Rattle.table.specs.Ranges.{between, signedBetween, reidBetween, settingsInRange, delayNegative, delayTooLong};
-use tracked_object::ReidCounter;
-use tracked_object::TrackerConfig;
+use parts::ReidCounter;
+use parts::TrackerConfig;
 
 pub fn is_between(low: usize, x: usize, high: usize) -> bool
     ensures { λ r. ⌜ r ≡ between low x high ⌝ }

@@ -8,9 +8,9 @@ use crate::Lists;
 use crate::Table;
 use crate::listed::is_list_whole;
 use crate::ranges;
-use tracked_object::PastDetection;
-use tracked_object::TrackedObject;
-use tracked_object::TrackerConfig;
+use parts::PastDetection;
+use parts::TrackedObject;
+use parts::TrackerConfig;
 
 // The first n point counters are at most 10,000.
 fn are_points_whole(counters: [u32; 16], n: usize) -> bool

@@ -1,9 +1,3 @@
--- Laws of the object record, and what its functions cite.
-pub mod Bounds
-pub mod Kept
-pub mod LifeLaws
-pub mod Marked
+-- Laws of the object record whole.
 pub mod MergeLaws
 pub mod ObjectLaws
-pub mod PastLaws
-pub mod PointLaws

@@ -15,15 +15,15 @@ use lib.Signed.{mag}
 use Rattle.laws.specs.Turns.{turns}
 use Rattle.laws.proofs.Turns.{turns-hold}
 use Rattle.laws.proofs.Pasting.{paste-front, paste-behind, paste-part}
-use Rattle.tracked_object.specs.declared.TrackerConfig.{TrackerConfig}
-use Rattle.tracked_object.specs.declared.TrackedObject.{TrackedObject}
-use Rattle.tracked_object.specs.declared.PastDetection.{PastDetection}
-use Rattle.tracked_object.specs.declared.ReidCounter.the-variants.{Absent}
-use Rattle.tracked_object.specs.Layout.{coords, width, lastAt, pastAt, blockSize}
-use Rattle.tracked_object.specs.Ranges.{Sizes, ObjectInRange, AgesInRange, unaged}
-use Rattle.tracked_object.specs.Past.{pushed}
+use Rattle.parts.specs.declared.TrackerConfig.{TrackerConfig}
+use Rattle.parts.specs.declared.TrackedObject.{TrackedObject}
+use Rattle.parts.specs.declared.PastDetection.{PastDetection}
+use Rattle.parts.specs.declared.ReidCounter.the-variants.{Absent}
+use Rattle.parts.specs.Layout.{coords, width, lastAt, pastAt, blockSize}
+use Rattle.parts.specs.Ranges.{Sizes, ObjectInRange, AgesInRange, unaged}
+use Rattle.parts.specs.Past.{pushed}
 use Rattle.tracked_object.specs.Object.{History, history, takes, added, conditionallyAdded, entryOf, historyMerged, taken, merging, objectMerged, blockMerged}
-use Rattle.tracked_object.proofs.PastLaws.{length-pushed, history-after, history-elsewhere}
+use Rattle.parts.proofs.PastLaws.{length-pushed, history-after, history-elsewhere}
 
 -- ---- whether an entry is taken
 

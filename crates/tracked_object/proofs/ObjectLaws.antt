@@ -17,13 +17,13 @@ use Rattle.filter.specs.Coordinate.{started, updated}
 use Rattle.filter.specs.Mask.{maskExists, observed}
 use Rattle.filter.specs.Block.{coordinateAt, each, startOf, predictOf, updateOf}
 use Rattle.filter.proofs.Block.{length-each, each-coordinate, each-rest}
-use Rattle.tracked_object.specs.declared.TrackerConfig.{TrackerConfig}
-use Rattle.tracked_object.specs.declared.TrackedObject.{TrackedObject}
-use Rattle.tracked_object.specs.Layout.{coords, width, lastAt, pastAt, blockSize}
-use Rattle.tracked_object.specs.Past.{pushed}
+use Rattle.parts.specs.declared.TrackerConfig.{TrackerConfig}
+use Rattle.parts.specs.declared.TrackedObject.{TrackedObject}
+use Rattle.parts.specs.Layout.{coords, width, lastAt, pastAt, blockSize}
+use Rattle.parts.specs.Past.{pushed}
 use Rattle.tracked_object.specs.Object.{Detection, stored, objectHit, blockPredicted, blockHit, blockOpened}
-use Rattle.tracked_object.proofs.Bounds.{filter-inside, last-inside}
-use Rattle.tracked_object.proofs.PastLaws.{length-pushed, history-after, history-elsewhere}
+use Rattle.parts.proofs.Bounds.{filter-inside, last-inside}
+use Rattle.parts.proofs.PastLaws.{length-pushed, history-after, history-elsewhere}
 
 -- ---- the record
 

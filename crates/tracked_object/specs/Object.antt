@@ -10,16 +10,16 @@ use lib.Ieee.{Float, lt}
 use Rattle.laws.specs.Float64.{f1}
 use Rattle.laws.specs.Turns.{turns}
 use Rattle.filter.specs.Block.{madeBlock, predictedBlock, updatedBlock}
-use Rattle.tracked_object.specs.declared.TrackerConfig.{TrackerConfig}
-use Rattle.tracked_object.specs.declared.TrackedObject.{TrackedObject}
-use Rattle.tracked_object.specs.declared.PastDetection.{PastDetection}
-use Rattle.tracked_object.specs.declared.Changed.{Changed}
-use Rattle.tracked_object.specs.declared.LastDistance.the-variants.{Never, Distance}
-use Rattle.tracked_object.specs.Layout.{coords, width, lastAt, pastAt}
-use Rattle.tracked_object.specs.Ranges.{unaged}
-use Rattle.tracked_object.specs.Life.{lifePredicted, promotes, lifeHit, lifeOpened, lifeMerged, isZero}
-use Rattle.tracked_object.specs.Points.{pointsFallen, pointsHit, flagsSet}
-use Rattle.tracked_object.specs.Past.{pushed, isDue}
+use Rattle.parts.specs.declared.TrackerConfig.{TrackerConfig}
+use Rattle.parts.specs.declared.TrackedObject.{TrackedObject}
+use Rattle.parts.specs.declared.PastDetection.{PastDetection}
+use Rattle.parts.specs.declared.Changed.{Changed}
+use Rattle.parts.specs.declared.LastDistance.the-variants.{Never, Distance}
+use Rattle.parts.specs.Layout.{coords, width, lastAt, pastAt}
+use Rattle.parts.specs.Ranges.{unaged}
+use Rattle.parts.specs.Life.{lifePredicted, promotes, lifeHit, lifeOpened, lifeMerged, isZero}
+use Rattle.parts.specs.Points.{pointsFallen, pointsHit, flagsSet}
+use Rattle.parts.specs.Past.{pushed, isDue}
 
 -- a detection as lent: coordinates point by point, scores, and whether these are used
 pub record Detection : Type 0 where

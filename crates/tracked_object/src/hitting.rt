@@ -3,19 +3,19 @@ ghost use mathlib.Core.Path.{_≡_};
 ghost use Prim.Native.Nat.{_≤_};
 ghost use mathlib.Core.List.{[]};
 ghost use lib.ListN.{length};
-ghost use Rattle.tracked_object.specs.Layout.{coords, blockSize};
-ghost use Rattle.tracked_object.specs.Ranges.{Sizes, ObjectInRange};
+ghost use Rattle.parts.specs.Layout.{coords, blockSize};
+ghost use Rattle.parts.specs.Ranges.{Sizes, ObjectInRange};
 ghost use Rattle.tracked_object.specs.Object.{detection, marksHit, objectHit, changedByHit, blockHit};
-use crate::Changed;
-use crate::Last;
-use crate::LastDistance;
-use crate::PastDetection;
-use crate::TrackedObject;
-use crate::TrackerConfig;
-use crate::block;
-use crate::counters;
-use crate::past;
-use crate::points;
+use parts::Changed;
+use parts::Last;
+use parts::LastDistance;
+use parts::PastDetection;
+use parts::TrackedObject;
+use parts::TrackerConfig;
+use parts::block;
+use parts::counters;
+use parts::past;
+use parts::points;
 
 // The marks of the history: with L above 0 the detection joins without an age.
 fn hit_marks(

@@ -2,15 +2,15 @@
 ghost use mathlib.Core.Path.{_≡_};
 ghost use Prim.Native.Nat.{_≤_};
 ghost use lib.ListN.{length};
-ghost use Rattle.tracked_object.specs.Layout.{width, blockSize};
-ghost use Rattle.tracked_object.specs.Ranges.{Sizes, ObjectInRange, AgesInRange};
+ghost use Rattle.parts.specs.Layout.{width, blockSize};
+ghost use Rattle.parts.specs.Ranges.{Sizes, ObjectInRange, AgesInRange};
 ghost use Rattle.tracked_object.specs.Object.{history, takes, conditionallyAdded, historyMerged, taken, objectMerged, blockMerged};
-use crate::PastDetection;
-use crate::TrackedObject;
-use crate::TrackerConfig;
-use crate::block;
-use crate::counters;
-use crate::past;
+use parts::PastDetection;
+use parts::TrackedObject;
+use parts::TrackerConfig;
+use parts::block;
+use parts::counters;
+use parts::past;
 
 // The marks of a history, and how many.
 pub struct Marks {

@@ -2,20 +2,20 @@
 ghost use mathlib.Core.Path.{_≡_};
 ghost use Prim.Native.Nat.{_≤_};
 ghost use lib.ListN.{length};
-ghost use Rattle.tracked_object.specs.Layout.{coords, blockSize};
-ghost use Rattle.tracked_object.specs.Ranges.{Sizes};
+ghost use Rattle.parts.specs.Layout.{coords, blockSize};
+ghost use Rattle.parts.specs.Ranges.{Sizes};
 ghost use Rattle.tracked_object.specs.Object.{detection, changedByOpening, blockOpened};
-use crate::Changed;
-use crate::Last;
-use crate::LastDistance;
-use crate::Origin;
-use crate::PastDetection;
-use crate::TrackedObject;
-use crate::TrackerConfig;
-use crate::block;
-use crate::counters;
-use crate::past;
-use crate::points;
+use parts::Changed;
+use parts::Last;
+use parts::LastDistance;
+use parts::Origin;
+use parts::PastDetection;
+use parts::TrackedObject;
+use parts::TrackerConfig;
+use parts::block;
+use parts::counters;
+use parts::past;
+use parts::points;
 
 pub fn open(
     config: TrackerConfig,

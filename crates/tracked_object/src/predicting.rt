@@ -1,14 +1,14 @@
 // Rule 32: a record and its block, predicted.
 ghost use mathlib.Core.Path.{_≡_};
 ghost use lib.ListN.{length};
-ghost use Rattle.tracked_object.specs.Layout.{blockSize};
-ghost use Rattle.tracked_object.specs.Ranges.{Sizes, ObjectInRange};
+ghost use Rattle.parts.specs.Layout.{blockSize};
+ghost use Rattle.parts.specs.Ranges.{Sizes, ObjectInRange};
 ghost use Rattle.tracked_object.specs.Object.{objectPredicted, blockPredicted};
-use crate::TrackedObject;
-use crate::TrackerConfig;
-use crate::block;
-use crate::counters;
-use crate::points;
+use parts::TrackedObject;
+use parts::TrackerConfig;
+use parts::block;
+use parts::counters;
+use parts::points;
 
 pub fn predict(config: TrackerConfig, o: TrackedObject, s: &mut [f64]) -> TrackedObject
     requires { ⌜ Sizes config × ObjectInRange config o × (length (now s) ≡ blockSize config) ⌝ }

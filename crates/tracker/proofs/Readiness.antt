@@ -6,7 +6,7 @@ use native.Mathlib.Nat.{le-trans, mul-le-mul-right}
 use native.Mathlib.Omega.{arith}
 use borrow.Author.Tests.{ltb-false, leb-false, not-false}
 use lib.ListN.{length}
-use Rattle.tracked_object.specs.Layout.{blockSize}
+use Rattle.parts.specs.Layout.{blockSize}
 use Rattle.table.specs.declared.Table.{Table}
 use Rattle.table.specs.Making.{zeroObject}
 use Rattle.table.specs.Refusals.{firstDue, storageNeed, predictChecks}

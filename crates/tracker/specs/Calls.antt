@@ -8,7 +8,7 @@ use lib.ListN.{length, take}
 use lib.Signed.{leZ}
 use lib.Ieee.{Float}
 use Rattle.laws.specs.Lists.{keep}
-use Rattle.tracked_object.specs.declared.TrackedObject.{TrackedObject}
+use Rattle.parts.specs.declared.TrackedObject.{TrackedObject}
 use Rattle.table.specs.declared.Table.{Table}
 use Rattle.table.specs.declared.Answer.{Answer}
 use Rattle.table.specs.Making.{answerOf}

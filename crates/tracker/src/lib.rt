@@ -4,10 +4,10 @@ ghost use Prim.Native.Nat.{_≤_};
 ghost use lib.ListN.{length};
 ghost use Rattle.table.specs.Making.{made};
 ghost use Rattle.tracker.specs.Calls.{predictAnswer, predictStorage, totalAnswer, currentAnswer, active, activeOf};
+pub use parts::ReidCounter;
+pub use parts::TrackerConfig;
 pub use table::Answer;
 pub use table::Table;
-pub use tracked_object::ReidCounter;
-pub use tracked_object::TrackerConfig;
 
 // A count, or the refusal and 0.
 pub struct Count {
@@ -79,7 +79,7 @@ pub fn current_object_count(t: Table) -> Count
 }
 
 // Not initializing, hit counter at least 0.
-fn is_active(o: tracked_object::TrackedObject) -> bool
+fn is_active(o: parts::TrackedObject) -> bool
     ensures { λ r. ⌜ r ≡ active o ⌝ }
 {
     let life = o.life;
@@ -87,7 +87,7 @@ fn is_active(o: tracked_object::TrackedObject) -> bool
 }
 
 // How many of the first n records are active.
-fn active_count(records: [tracked_object::TrackedObject; 64], n: usize) -> usize
+fn active_count(records: [parts::TrackedObject; 64], n: usize) -> usize
     requires { ⌜ n ≤ 64 ⌝ }
     ensures { λ r. ⌜ r ≡ length (activeOf n records) ⌝ }
 {

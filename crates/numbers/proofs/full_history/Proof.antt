@@ -11,8 +11,8 @@ use mir.Facts.{toZ-ofZ}
 use mir.Syntax.{w32}
 use mir.Val.{toZ, ofZ}
 use borrow.Author.Needs.{needs}
-use Rattle.tracked_object.specs.declared.PastDetection.{PastDetection}
-use Rattle.tracked_object.specs.Ranges.{Sizes, AgesInRange, unaged}
+use Rattle.parts.specs.declared.PastDetection.{PastDetection}
+use Rattle.parts.specs.Ranges.{Sizes, AgesInRange, unaged}
 use Rattle.numbers.proofs.full_history.Statement.{statement}
 use Rattle.numbers.proofs.full_history.Tie as tie
 

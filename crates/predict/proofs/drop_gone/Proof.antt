@@ -6,8 +6,8 @@ use native.Mathlib.Omega.{arith}
 use native.Mathlib.Numerals.{add-one}
 use borrow.Author.Needs.{needs}
 use lib.ListN.{length, getD}
-use Rattle.tracked_object.specs.declared.block.Layout.{Layout}
-use Rattle.tracked_object.specs.Layout.{blockSize}
+use Rattle.parts.specs.declared.block.Layout.{Layout}
+use Rattle.parts.specs.Layout.{blockSize}
 use Rattle.laws.specs.Lists.{keep}
 use Rattle.table.specs.Making.{zeroObject}
 use Rattle.table.specs.Slots.{slots, blocksOf, recordsBack, floatsBack}

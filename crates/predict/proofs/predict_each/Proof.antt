@@ -7,8 +7,8 @@ use native.Mathlib.Numerals.{add-one}
 use borrow.Author.Needs.{needs}
 use borrow.Rule.Slice.PartAt.{part-count}
 use lib.ListN.{length, getD}
-use Rattle.tracked_object.specs.declared.block.Layout.{Layout}
-use Rattle.tracked_object.specs.Layout.{blockSize}
+use Rattle.parts.specs.declared.block.Layout.{Layout}
+use Rattle.parts.specs.Layout.{blockSize}
 use Rattle.tracked_object.specs.Object.{objectPredicted}
 use Rattle.table.specs.Making.{zeroObject}
 use Rattle.table.specs.Slots.{slots, blocksOf, recordsBack, floatsBack}

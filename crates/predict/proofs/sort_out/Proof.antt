@@ -10,8 +10,8 @@ use borrow.Author.Needs.{needs}
 use lib.ListN.{length, getD}
 use Rattle.laws.specs.Lists.{below, keep, padded}
 use Rattle.laws.proofs.Growing.{length-snoc, padded-snoc}
-use Rattle.tracked_object.specs.declared.TrackerConfig.{TrackerConfig}
-use Rattle.tracked_object.specs.declared.TrackedObject.{TrackedObject}
+use Rattle.parts.specs.declared.TrackerConfig.{TrackerConfig}
+use Rattle.parts.specs.declared.TrackedObject.{TrackedObject}
 use Rattle.table.specs.Making.{zeroObject}
 use Rattle.predict.specs.declared.Sort.{Sort}
 use Rattle.predict.specs.Step.{belongs}

@@ -11,7 +11,7 @@ use lib.ListN.{length, take, getD, length-take}
 use lib.Seq.{take-suc}
 use Rattle.laws.specs.Lists.{keep}
 use Rattle.laws.proofs.Growing.{length-snoc, keep-snoc, length-keep}
-use Rattle.tracked_object.specs.declared.TrackedObject.{TrackedObject}
+use Rattle.parts.specs.declared.TrackedObject.{TrackedObject}
 use Rattle.tracker.specs.Calls.{active, activeOf}
 use Rattle.tracker.proofs.active_count.Statement.{statement}
 use Rattle.tracker.proofs.active_count.Tie as tie

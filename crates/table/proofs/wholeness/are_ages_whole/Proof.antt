@@ -9,7 +9,7 @@ use lib.ListN.{length, getD}
 use mir.Syntax.{w32}
 use mir.Val.{SFits, toZ, ofZ}
 use mir.Facts.{toZ-ofZ}
-use Rattle.tracked_object.specs.declared.PastDetection.{PastDetection}
+use Rattle.parts.specs.declared.PastDetection.{PastDetection}
 use Rattle.table.specs.Ranges.{signedBetween}
 use Rattle.table.specs.Wholeness.{agesWhole}
 use Rattle.table.proofs.Passing.{Passed, stops, passes, ends}

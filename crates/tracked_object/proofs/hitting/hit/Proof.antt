@@ -1,9 +1,9 @@
 -- `tracked_object::hitting::hit` meets its contract: a record took the next permanent ID if it was initializing and is not now.
 use mathlib.Core.Path.{_≡_, _∙_}
 use borrow.Author.Needs.{needs}
-use Rattle.tracked_object.specs.Life.{promotes}
+use Rattle.parts.specs.Life.{promotes}
 use Rattle.tracked_object.specs.Object.{objectHit}
-use Rattle.tracked_object.proofs.LifeLaws.{issued-hit}
+use Rattle.parts.proofs.LifeLaws.{issued-hit}
 use Rattle.tracked_object.proofs.hitting.hit.Statement.{statement}
 use Rattle.tracked_object.proofs.hitting.hit.Tie as tie
 

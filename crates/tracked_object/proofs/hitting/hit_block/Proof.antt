@@ -5,7 +5,7 @@ use borrow.Author.Needs.{needs}
 use borrow.Author.Tests.{lt-ltb, le-ltb}
 use denote.Ref.{now}
 use Rattle.tracked_object.specs.Object.{detection, updatedAndStored, blockHit}
-use Rattle.tracked_object.proofs.Bounds.{block-small, filter-inside, last-inside, place-inside}
+use Rattle.parts.proofs.Bounds.{block-small, filter-inside, last-inside, place-inside}
 use Rattle.tracked_object.proofs.hitting.hit_block.Statement.{statement}
 use Rattle.tracked_object.proofs.hitting.hit_block.Tie as tie
 

@@ -7,10 +7,10 @@ use borrow.Author.Needs.{needs}
 use borrow.Author.Tests.{not-true, not-false}
 use lib.IntN.{pos}
 use mir.Facts.{toZ-ofZ}
-use Rattle.tracked_object.specs.Layout.{width}
+use Rattle.parts.specs.Layout.{width}
 use Rattle.tracked_object.specs.Object.{takes, conditionallyAdded}
-use Rattle.tracked_object.proofs.Bounds.{block-most}
-use Rattle.tracked_object.proofs.PastLaws.{inside}
+use Rattle.parts.proofs.Bounds.{block-most}
+use Rattle.parts.proofs.PastLaws.{inside}
 use Rattle.tracked_object.proofs.MergeLaws.{some-of}
 use Rattle.tracked_object.proofs.merging.conditionally_add_to_past_detections.Statement.{
   statement,

@@ -11,12 +11,12 @@ use lib.ListN.{length, take, drop, length-map}
 use Rattle.laws.specs.Turns.{turns}
 use Rattle.laws.proofs.Elements.{getD-any}
 use Rattle.laws.proofs.Turns.{turns-next}
-use Rattle.tracked_object.specs.declared.TrackerConfig.{TrackerConfig}
-use Rattle.tracked_object.specs.declared.block.Layout.{Layout}
-use Rattle.tracked_object.specs.Layout.{pastAt, blockSize, layoutOf}
-use Rattle.tracked_object.specs.Ranges.{unaged}
+use Rattle.parts.specs.declared.TrackerConfig.{TrackerConfig}
+use Rattle.parts.specs.declared.block.Layout.{Layout}
+use Rattle.parts.specs.Layout.{pastAt, blockSize, layoutOf}
+use Rattle.parts.specs.Ranges.{unaged}
 use Rattle.tracked_object.specs.Object.{history, historyMerged, entryOf}
-use Rattle.tracked_object.proofs.Bounds.{block-most}
+use Rattle.parts.proofs.Bounds.{block-most}
 use Rattle.tracked_object.proofs.MergeLaws.{HistoryKept, turn, kept-turns, entry-inside, length-entry}
 use Rattle.tracked_object.proofs.merging.merge_past.Statement.{statement}
 use Rattle.tracked_object.proofs.merging.merge_past.Tie as tie

@@ -3,8 +3,8 @@ use native.Mathlib.Omega.{arith}
 use borrow.Author.Needs.{needs}
 use borrow.Rule.Slice.PartAt.{part-to-end}
 use lib.ListN.{length-drop}
-use Rattle.tracked_object.specs.Layout.{lastAt}
-use Rattle.tracked_object.proofs.Bounds.{coords-most}
+use Rattle.parts.specs.Layout.{lastAt}
+use Rattle.parts.proofs.Bounds.{coords-most}
 use Rattle.tracked_object.proofs.merging.take_over.Statement.{statement}
 use Rattle.tracked_object.proofs.merging.take_over.Tie as tie
 

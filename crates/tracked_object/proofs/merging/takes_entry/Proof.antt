@@ -9,7 +9,7 @@ use lib.IntN.{pos}
 use lib.ListN.{length, getD, length-map}
 use mir.Facts.{toZ-ofZ}
 use Rattle.laws.proofs.Elements.{getD-any}
-use Rattle.tracked_object.specs.Ranges.{unaged}
+use Rattle.parts.specs.Ranges.{unaged}
 use Rattle.tracked_object.proofs.merging.takes_entry.Statement.{statement}
 use Rattle.tracked_object.proofs.merging.takes_entry.Tie as tie
 

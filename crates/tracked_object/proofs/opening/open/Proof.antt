@@ -3,8 +3,8 @@ use native.Mathlib.Omega.{arith}
 use borrow.Author.Needs.{needs}
 use mir.Facts.{toZ-ofZ}
 use Rattle.tracked_object.specs.Object.{objectOpened, blockOpened}
-use Rattle.tracked_object.proofs.Bounds.{filter-inside, last-inside}
-use Rattle.tracked_object.proofs.LifeLaws.{issued-opened}
+use Rattle.parts.proofs.Bounds.{filter-inside, last-inside}
+use Rattle.parts.proofs.LifeLaws.{issued-opened}
 use Rattle.tracked_object.proofs.opening.open.Statement.{statement}
 use Rattle.tracked_object.proofs.opening.open.Tie as tie
 

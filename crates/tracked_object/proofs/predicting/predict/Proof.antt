@@ -2,7 +2,7 @@
 use native.Mathlib.Omega.{arith}
 use borrow.Author.Needs.{needs}
 use Rattle.tracked_object.specs.Object.{objectPredicted}
-use Rattle.tracked_object.proofs.Bounds.{filter-inside}
+use Rattle.parts.proofs.Bounds.{filter-inside}
 use Rattle.tracked_object.proofs.predicting.predict.Statement.{statement}
 use Rattle.tracked_object.proofs.predicting.predict.Tie as tie
 
