@@ -1,28 +1,29 @@
 -- A loop that fills an array from its front: one element more at the first place behind the list.
 use mathlib.Core.Path.{_≡_, refl, sym, _∙_, ap}
 use mathlib.Core.Bool.{Bool, true, false, cond}
-use mathlib.Core.List.{List, [], _∷_, _++_, append-assoc}
+use mathlib.Core.List.{List, [], _∷_, _++_, append-assoc, append-nil}
 use Prim.Native.Nat.{ℕ, zero, suc, _+_, _-_, _<_, _≤_}
 use native.Mathlib.Omega.{arith}
 use native.Mathlib.Numerals.{add-one}
 use lib.ListN.{length, set, replicate, length-append, length-replicate}
 use lib.Seq.{set-append-seam}
-use Rattle.laws.specs.Lists.{below, keep, padded}
+use Rattle.laws.specs.Lists.{below, keep, filled}
 
 pub length-snoc : {A : Type 0} (l : List A) (x : A) → length (l ++ (x ∷ [])) ≡ suc (length l)
 length-snoc l x = length-append l (x ∷ []) ∙ add-one (length l)
 
-pub length-padded : (n : ℕ) (l : List ℕ) → length l ≤ n → length (padded n l) ≡ n
-length-padded n l h = omega (arith, length-append l (replicate (n - length l) 0), length-replicate {A = ℕ} (n - length l) 0)
+module _ {A : Type 0} (n : ℕ) (d : A) (l : List A) where
+  pub length-filled : length l ≤ n → length (filled n d l) ≡ n
+  length-filled h = omega (arith, length-append l (replicate (n - length l) d), length-replicate {A = A} (n - length l) d)
 
--- what stands behind a list that does not fill the array: one 0, then the others
-room : (n k : ℕ) (l : List ℕ) (x : ℕ) → n - length l ≡ suc k → set (padded n l) (length l) x ≡ l ++ (x ∷ replicate k 0)
-room n k l x e = rw e (set-append-seam l 0 (replicate k 0) x)
+  -- what stands behind a list that does not fill the array: one place, then the others
+  room : (k : ℕ) (x : A) → n - length l ≡ suc k → set (filled n d l) (length l) x ≡ l ++ (x ∷ replicate k d)
+  room k x e = rw e (set-append-seam l d (replicate k d) x)
 
-pub padded-snoc : (n : ℕ) (l : List ℕ) (x : ℕ) → length l < n → set (padded n l) (length l) x ≡ padded n (l ++ (x ∷ []))
-padded-snoc n l x h =
-    let e : n - length l ≡ suc (n - length (l ++ (x ∷ []))) = omega (arith, length-snoc l x) in
-    room n (n - length (l ++ (x ∷ []))) l x e ∙ sym (append-assoc l (x ∷ []) (replicate (n - length (l ++ (x ∷ []))) 0))
+  pub filled-snoc : (x : A) → length l < n → set (filled n d l) (length l) x ≡ filled n d (l ++ (x ∷ []))
+  filled-snoc x h =
+      let e : n - length l ≡ suc (n - length (l ++ (x ∷ []))) = omega (arith, length-snoc l x) in
+      room (n - length (l ++ (x ∷ []))) x e ∙ sym (append-assoc l (x ∷ []) (replicate (n - length (l ++ (x ∷ []))) d))
 
 -- ---- the numbers below a count that pass a test
 
@@ -41,6 +42,21 @@ unfolding keep
 keep-snoc p [] x = refl
 keep-snoc p (y ∷ l) x = rw (keep-snoc p l x) (choose-snoc (p y) (p x) y x (keep p l))
 
+module _ {A : Type 0} (p : A → Bool) (l : List A) (x : A) where
+  pub joins : p x ≡ true → keep p (l ++ (x ∷ [])) ≡ keep p l ++ (x ∷ [])
+  joins e = keep-snoc p l x ∙ rw e
+
+  pub stays-out : p x ≡ false → keep p (l ++ (x ∷ [])) ≡ keep p l
+  stays-out e = keep-snoc p l x ∙ rw e (append-nil (keep p l))
+
+-- a test that agrees on every number below n keeps the same of them
+pub keep-alike : (p q : ℕ → Bool) (n : ℕ) → ((i : ℕ) → i < n → p i ≡ q i) → keep p (below n) ≡ keep q (below n)
+unfolding below keep
+keep-alike p q zero same = refl
+keep-alike p q (suc n) same =
+    keep-snoc p (below n) n
+    ∙ rw (keep-alike p q n (λ i h. same i (omega arith)), same n (omega arith)) (sym (keep-snoc q (below n) n))
+
 longer : {A : Type 0} (b : Bool) (x : A) (k : List A) (n : ℕ) → length k ≤ n → length (cond b (x ∷ k) k) ≤ suc n
 longer true x k n h = omega arith
 longer false x k n h = omega arith
@@ -49,3 +65,6 @@ pub length-keep : {A : Type 0} (p : A → Bool) (l : List A) → length (keep p 
 unfolding keep
 length-keep p [] = omega arith
 length-keep p (x ∷ l) = longer (p x) x (keep p l) (length l) (length-keep p l)
+
+pub at-most : (p : ℕ → Bool) (n : ℕ) → length (keep p (below n)) ≤ n
+at-most p n = omega (arith, length-keep p (below n), length-below n)

@@ -10,4 +10,5 @@ pub mod Mapped
 pub mod Pasting
 pub mod Search
 pub mod Signed
+pub mod Through
 pub mod Turns

@@ -29,6 +29,10 @@ unfoldable pub times : ℕ → List ℕ → ℕ
 times x [] = 0
 times x (y ∷ l) = cond (eqb y x) 1 0 + times x l
 
--- a list in an array of n numbers: 0 behind its end
+-- a list in an array of n places: the same element in all places behind its end
+abbrev pub filled : {A : Type 0} → ℕ → A → List A → List A
+filled n x l = l ++ replicate (n - length l) x
+
+-- of numbers: 0 behind its end
 abbrev pub padded : ℕ → List ℕ → List ℕ
-padded n l = l ++ replicate (n - length l) 0
+padded n l = filled n 0 l

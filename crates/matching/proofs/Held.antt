@@ -7,7 +7,7 @@ use native.Mathlib.Omega.{arith}
 use native.Mathlib.Numerals.{add-one}
 use lib.ListN.{length, set, replicate, length-map}
 use Rattle.laws.specs.Lists.{padded}
-use Rattle.laws.proofs.Growing.{length-snoc, padded-snoc}
+use Rattle.laws.proofs.Growing.{length-snoc, filled-snoc}
 use Rattle.matching.specs.declared.Picks.{Picks}
 use Rattle.matching.specs.declared.Place.the-variants.{At, Nothing}
 use Rattle.matching.specs.Greedy.{Matrix, Pick, rowsOf, colsOf, nextPick, greedy, picks}
@@ -40,7 +40,7 @@ snoc : (f : Pick → ℕ) (l : List Pick) (p : Pick) (n : ℕ) (xs : List ℕ) �
 snoc f l p n xs c h e =
     let long : length (map f l) ≡ n = length-map l f ∙ sym c in
     rw (map-append f l (p ∷ []), e)
-    (ap (λ (k : ℕ). set (padded 32 (map f l)) k (f p)) (sym long) ∙ padded-snoc 32 (map f l) (f p) (omega arith))
+    (ap (λ (k : ℕ). set (padded 32 (map f l)) k (f p)) (sym long) ∙ filled-snoc 32 0 (map f l) (f p) (omega arith))
 
 module _ (m : Matrix) (ur₀ uc₀ : List Bool) where
   pub held-first : Held m ur₀ uc₀ 0 ur₀ uc₀ (replicate 32 0) (replicate 32 0)

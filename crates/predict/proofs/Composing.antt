@@ -8,56 +8,20 @@ use native.Mathlib.Omega.{arith}
 use lib.Ieee.{Float}
 use lib.ListN.{length, getD}
 use Rattle.laws.specs.Lists.{below, keep}
-use Rattle.laws.proofs.Growing.{keep-snoc}
+use Rattle.laws.proofs.Growing.{keep-alike}
 use Rattle.parts.specs.declared.TrackerConfig.{TrackerConfig}
 use Rattle.parts.specs.declared.TrackedObject.{TrackedObject}
 use Rattle.parts.specs.Layout.{blockSize}
 use Rattle.parts.specs.Ranges.{ObjectInRange}
 use Rattle.table.specs.Making.{zeroObject}
-use Rattle.table.specs.Slots.{Slot, slots, objectsOf, recordsBack, floatsBack}
-use Rattle.table.proofs.SlotLaws.{slotAt, slots-back, records-front, records-at, records-again, floats-again}
+use Rattle.table.specs.Slots.{Slot, slots, objectsOf, recordsBack, floatsBack, AllInRange}
+use Rattle.table.proofs.Ranged.{ranged-slots, ranged-keep, ranged-at}
+use Rattle.table.proofs.SlotLaws.{slots-back, records-front, records-at, records-again, floats-again}
 use Rattle.predict.specs.declared.Kept.{Kept}
 use Rattle.predict.specs.declared.Sort.{Sort}
-use Rattle.predict.specs.Step.{belongs, keptOf, keptRecords, keptFloats, placesOf, eachPredicted, AllInRange}
+use Rattle.predict.specs.Step.{belongs, keptOf, keptRecords, keptFloats, placesOf, eachPredicted}
 use Rattle.predict.proofs.Dropping.{stays, kept-most, kept-sized, kept-length}
 use Rattle.predict.proofs.Predicting.{predicted-length}
-
--- a test that agrees on every number below n keeps the same of them
-pub keep-alike : (p q : ℕ → Bool) (n : ℕ) → ((i : ℕ) → i < n → p i ≡ q i) → keep p (below n) ≡ keep q (below n)
-unfolding below keep
-keep-alike p q zero same = refl
-keep-alike p q (suc n) same =
-    keep-snoc p (below n) n
-    ∙ rw (keep-alike p q n (λ i h. same i (omega arith)), same n (omega arith)) (sym (keep-snoc q (below n) n))
-
--- every object is in range
-data Ranged (c : TrackerConfig) : List Slot → Type 0 where
-  none : Ranged c []
-  one : {x : Slot} {l : List Slot} → ObjectInRange c (x .object) → Ranged c l → Ranged c (x ∷ l)
-
-ranged-snoc : {c : TrackerConfig} {l : List Slot} (x : Slot) → Ranged c l → ObjectInRange c (x .object) → Ranged c (l ++ (x ∷ []))
-ranged-snoc x none h = one h none
-ranged-snoc x (one g r) h = one g (ranged-snoc x r h)
-
-ranged-slots : (c : TrackerConfig) (b : ℕ) (records : List TrackedObject) (s : List Float) (n : ℕ) → AllInRange c n records → Ranged c (slots b records s n)
-unfolding slots
-ranged-slots c b records s zero all = none
-ranged-slots c b records s (suc n) all =
-    ranged-snoc (slotAt b records s n) (ranged-slots c b records s n (λ i h. all i (omega arith))) (all n (omega arith))
-
-chosen : {c : TrackerConfig} (x : Slot) {l : List Slot} (t : Bool) → ObjectInRange c (x .object) → Ranged c l → Ranged c (cond t (x ∷ l) l)
-chosen x true h r = one h r
-chosen x false h r = r
-
-ranged-keep : {c : TrackerConfig} {l : List Slot} (p : Slot → Bool) → Ranged c l → Ranged c (keep p l)
-unfolding keep
-ranged-keep p none = none
-ranged-keep p (one {x} h r) = chosen x (p x) h (ranged-keep p r)
-
-ranged-at : {c : TrackerConfig} {l : List Slot} (i : ℕ) (d : Slot) → Ranged c l → i < length l → ObjectInRange c (getD l i d .object)
-ranged-at i d none h = absurd (omega arith)
-ranged-at zero d (one g r) h = g
-ranged-at (suc i) d (one g r) h = ranged-at i d r (le-of-suc-le-suc h)
 
 -- ---- behind the drop
 

@@ -8,7 +8,7 @@ use native.Mathlib.Omega.{arith}
 use lib.Ieee.{Float}
 use lib.ListN.{length, getD, drop, set, length-drop}
 use lib.Seq.{paste, length-take-le, take-take}
-use Rattle.laws.proofs.Growing.{length-keep, length-snoc}
+use Rattle.laws.proofs.Growing.{length-keep, length-snoc, joins, stays-out}
 use Rattle.parts.specs.declared.TrackerConfig.{TrackerConfig}
 use Rattle.parts.specs.declared.TrackedObject.{TrackedObject}
 use Rattle.parts.specs.Layout.{blockSize}
@@ -16,7 +16,6 @@ use Rattle.table.specs.Making.{zeroObject}
 use Rattle.table.specs.Slots.{Slot, slots, recordsBack, floatsBack}
 use Rattle.table.proofs.SlotLaws.{Sized, sized-keep, slots-suc, slots-length, slots-sized, slotAt, block-fits, records-put, floats-length, floats-put, floats-behind}
 use Rattle.predict.specs.Step.{gone, keptOf}
-use Rattle.predict.proofs.Joining.{joins, stays-out}
 
 abbrev pub stays : TrackerConfig → Slot → Bool
 stays c x = not (gone c (x .object))

@@ -20,19 +20,15 @@ use Rattle.tracked_object.specs.Object.{objectPredicted}
 use Rattle.table.specs.declared.Table.{Table}
 use Rattle.table.specs.declared.Lists.{Lists}
 use Rattle.table.specs.Making.{zeroObject}
-use Rattle.table.specs.Slots.{Slot, objectsOf}
-use Rattle.table.proofs.SlotLaws.{Sized, objects-length, slots-objects, floats-length, floats-behind}
+use Rattle.table.specs.Slots.{Slot, objectsOf, tableSlots, nameOf, names, tableNames}
+use Rattle.table.proofs.SlotLaws.{Sized, objects-length, names-objects, slots-objects, floats-length, floats-behind}
 use Rattle.predict.specs.declared.Sort.{Sort}
 use Rattle.predict.specs.declared.Sort.the-variants.{Alive, Initializing, Dead}
-use Rattle.predict.specs.Step.{gone, belongs, placesOf, eachPredicted, slotsBefore, slotsKept, slotsAfter, predictTable, predictFloats, names, nameOf, tableNames, dropped}
+use Rattle.predict.specs.Step.{gone, belongs, placesOf, eachPredicted, slotsKept, slotsAfter, predictTable, predictFloats, dropped}
 use Rattle.predict.proofs.Dropping.{kept-most, kept-sized}
 use Rattle.predict.proofs.Predicting.{predicted-length, predicted-sized}
 
 -- ---- the account
-
-names-objects : (l : List Slot) → map nameOf (objectsOf l) ≡ names l
-names-objects [] = refl
-names-objects (x ∷ l) = ap (λ (r : List ℕ). nameOf (x .object) ∷ r) (names-objects l)
 
 -- predicting renames nobody
 names-predicted : (c : TrackerConfig) (l : List Slot) → names (eachPredicted c l) ≡ names l
@@ -65,8 +61,8 @@ module _ (t : Table) (s : List Float) where
       → times x (tableNames t) ≡ times x (tableNames (predictTable t s)) + times x (dropped t s)
   unfolding dropped
   fair h x =
-      rw (names-kept, ← slots-objects (blockSize (t .config)) (t .records) s (t .counts .records) h, names-objects (slotsBefore t s))
-      (parted x (λ y. gone (t .config) (y .object)) (slotsBefore t s))
+      rw (names-kept, ← slots-objects (blockSize (t .config)) (t .records) s (t .counts .records) h, names-objects (tableSlots t s))
+      (parted x (λ y. gone (t .config) (y .object)) (tableSlots t s))
 
 -- ---- the floats
 

@@ -3,7 +3,7 @@ use mathlib.Core.Bool.{Bool, true, false, not, _&&_}
 use mathlib.Core.List.{List, map}
 use Prim.Native.Nat.{ℕ, _+_, _*_, _<_, _≤_}
 use lib.IntN.{pos}
-use lib.ListN.{length, getD, take}
+use lib.ListN.{length, getD}
 use lib.Signed.{leZ, ltZ}
 use lib.Ieee.{Float}
 use Rattle.laws.specs.Lists.{below, keep}
@@ -14,12 +14,12 @@ use Rattle.parts.specs.declared.TrackedObject.{TrackedObject}
 use Rattle.parts.specs.declared.ReidCounter.{ReidCounter}
 use Rattle.parts.specs.declared.ReidCounter.the-variants.{Absent, Present}
 use Rattle.parts.specs.Layout.{blockSize}
-use Rattle.parts.specs.Ranges.{Sizes, ObjectInRange}
+use Rattle.parts.specs.Ranges.{Sizes}
 use Rattle.tracked_object.specs.Object.{objectPredicted, blockPredicted}
 use Rattle.table.specs.declared.Table.{Table}
 use Rattle.table.specs.declared.Phase.the-variants.{Match}
 use Rattle.table.specs.Making.{zeroObject, noNumbers}
-use Rattle.table.specs.Slots.{Slot, slots, objectsOf, recordsBack, floatsBack}
+use Rattle.table.specs.Slots.{Slot, slots, objectsOf, recordsBack, floatsBack, tableSlots, AllInRange, names}
 use Rattle.predict.specs.declared.Sort.{Sort}
 use Rattle.predict.specs.declared.Sort.the-variants.{Alive, Initializing, Dead}
 use Rattle.predict.specs.declared.Kept.{Kept}
@@ -80,9 +80,6 @@ slotPredicted c s = record { object = objectPredicted c (s .object); block = blo
 abbrev pub eachPredicted : TrackerConfig → List Slot → List Slot
 eachPredicted c l = map (slotPredicted c) l
 
-abbrev pub AllInRange : TrackerConfig → ℕ → List TrackedObject → Type 0
-AllInRange c n records = (i : ℕ) → i < n → ObjectInRange c (getD records i zeroObject)
-
 -- what the public call has once no refusal is due
 pub record Ready (t : Table) (floats : ℕ) : Type 0 where
   pub sizes : Sizes (t .config)
@@ -93,11 +90,8 @@ pub record Ready (t : Table) (floats : ℕ) : Type 0 where
 
 -- ---- the step
 
-abbrev pub slotsBefore : Table → List Float → List Slot
-slotsBefore t s = slots (blockSize (t .config)) (t .records) s (t .counts .records)
-
 abbrev pub slotsKept : Table → List Float → List Slot
-slotsKept t s = keptSlots (t .config) (slotsBefore t s)
+slotsKept t s = keptSlots (t .config) (tableSlots t s)
 
 abbrev pub slotsAfter : Table → List Float → List Slot
 slotsAfter t s = eachPredicted (t .config) (slotsKept t s)
@@ -132,15 +126,5 @@ predictFloats t s = floatsBack (blockSize (t .config)) (slotsAfter t s) s
 
 -- ---- the account: who was dropped, by initializing ID, in table order
 
-abbrev pub nameOf : TrackedObject → ℕ
-nameOf o = o .origin .«initializing_id»
-
-abbrev pub names : List Slot → List ℕ
-names l = map (λ s. nameOf (s .object)) l
-
--- who is in a table
-abbrev pub tableNames : Table → List ℕ
-tableNames t = map nameOf (take (t .counts .records) (t .records))
-
 unfoldable pub dropped : Table → List Float → List ℕ
-dropped t s = names (keep (λ x. gone (t .config) (x .object)) (slotsBefore t s))
+dropped t s = names (keep (λ x. gone (t .config) (x .object)) (tableSlots t s))

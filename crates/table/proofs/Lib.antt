@@ -7,3 +7,5 @@ pub mod Due
 pub mod Marked
 pub mod MakingLaws
 pub mod SlotLaws
+pub mod Ranged
+pub mod Reading

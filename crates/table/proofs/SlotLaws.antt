@@ -16,7 +16,7 @@ use Rattle.laws.proofs.Fronts.{front-length, front-behind, front-getD-behind, f
 use Rattle.laws.proofs.Mapped.{map-set}
 use Rattle.parts.specs.declared.TrackedObject.{TrackedObject}
 use Rattle.table.specs.Making.{zeroObject}
-use Rattle.table.specs.Slots.{Slot, slots, objectsOf, blocksOf, recordsBack, floatsBack}
+use Rattle.table.specs.Slots.{Slot, slots, objectsOf, blocksOf, recordsBack, floatsBack, nameOf, names}
 
 -- every block has b floats
 pub data Sized (b : ℕ) : List Slot → Type 0 where
@@ -100,6 +100,10 @@ block-fits b i n h = rw suc-mul at (mul-le-mul-right {m = suc i} {n = n} b h)
 
 pub objects-length : (l : List Slot) → length (objectsOf l) ≡ length l
 objects-length l = length-map l (λ s. s .object)
+
+pub names-objects : (l : List Slot) → map nameOf (objectsOf l) ≡ names l
+names-objects [] = refl
+names-objects (x ∷ l) = ap (λ (r : List ℕ). nameOf (x .object) ∷ r) (names-objects l)
 
 module _ (l : List Slot) (records : List TrackedObject) where
   pub records-length : length l ≤ length records → length (recordsBack l records) ≡ length records

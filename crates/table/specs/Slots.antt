@@ -1,9 +1,13 @@
 -- The model of a table and its floats: a list of slots, each a record and its block.
 use mathlib.Core.List.{List, [], _∷_, _++_, map}
-use Prim.Native.Nat.{ℕ, zero, suc, _+_, _*_}
+use Prim.Native.Nat.{ℕ, zero, suc, _+_, _*_, _<_}
 use lib.ListN.{length, getD, take, drop}
 use lib.Ieee.{Float}
+use Rattle.parts.specs.declared.TrackerConfig.{TrackerConfig}
 use Rattle.parts.specs.declared.TrackedObject.{TrackedObject}
+use Rattle.parts.specs.Layout.{blockSize}
+use Rattle.parts.specs.Ranges.{ObjectInRange}
+use Rattle.table.specs.declared.Table.{Table}
 use Rattle.table.specs.Making.{zeroObject}
 
 pub record Slot : Type 0 where
@@ -29,3 +33,22 @@ recordsBack l records = objectsOf l ++ drop (length l) records
 
 abbrev pub floatsBack : ℕ → List Slot → List Float → List Float
 floatsBack b l floats = blocksOf l ++ drop (length l * b) floats
+
+-- the slots of a table
+abbrev pub tableSlots : Table → List Float → List Slot
+tableSlots t s = slots (blockSize (t .config)) (t .records) s (t .counts .records)
+
+abbrev pub AllInRange : TrackerConfig → ℕ → List TrackedObject → Type 0
+AllInRange c n records = (i : ℕ) → i < n → ObjectInRange c (getD records i zeroObject)
+
+-- ---- accounts name a record by its initializing ID
+
+abbrev pub nameOf : TrackedObject → ℕ
+nameOf o = o .origin .«initializing_id»
+
+abbrev pub names : List Slot → List ℕ
+names l = map (λ s. nameOf (s .object)) l
+
+-- who is in a table
+abbrev pub tableNames : Table → List ℕ
+tableNames t = map nameOf (take (t .counts .records) (t .records))

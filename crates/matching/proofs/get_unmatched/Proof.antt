@@ -9,7 +9,7 @@ use native.Mathlib.Numerals.{add-one}
 use borrow.Author.Needs.{needs}
 use lib.ListN.{length, take}
 use Rattle.laws.specs.Lists.{below, keep, padded}
-use Rattle.laws.proofs.Growing.{length-snoc, padded-snoc}
+use Rattle.laws.proofs.Growing.{length-snoc, filled-snoc}
 use Rattle.matching.specs.Unmatched.{unmatched}
 use Rattle.matching.proofs.Left.{at-most-total, joins, stays-out}
 use Rattle.matching.proofs.get_unmatched.Statement.{statement}
@@ -68,7 +68,7 @@ loop-again c =
     rw (add-one (loop .i)) (joins (loop .i) ms (ap not (sym (c .before .is-among .ensures)) ∙ w .0 .taken)) in (
       omega arith,
       rw (u, length-snoc l (loop .i)) (w .2 ∙ add-one (loop .count) ∙ ap suc (loop .inv .1)),
-      rw u (w .1 ∙ rw (loop .inv .2, loop .inv .1) (padded-snoc 64 l (loop .i) (omega (arith, at-most-total (loop .i) ms)))),
+      rw u (w .1 ∙ rw (loop .inv .2, loop .inv .1) (filled-snoc 64 0 l (loop .i) (omega (arith, at-most-total (loop .i) ms)))),
     ))
     (λ w.
     let u : unmatched (loop .i + 1) ms ≡ l =

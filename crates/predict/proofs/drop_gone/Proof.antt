@@ -13,7 +13,7 @@ use Rattle.table.specs.Making.{zeroObject}
 use Rattle.table.specs.Slots.{slots, blocksOf, recordsBack, floatsBack}
 use Rattle.predict.specs.Step.{gone, keptOf}
 use Rattle.predict.proofs.Dropping.{Room, room, kept-length, gone-turn, one-more, record-moved, block-moved}
-use Rattle.predict.proofs.Reading.{blank, read}
+use Rattle.table.proofs.Reading.{blank, read}
 use Rattle.predict.proofs.drop_gone.Statement.{statement}
 use Rattle.predict.proofs.drop_gone.Tie as tie
 

@@ -14,7 +14,7 @@ use Rattle.table.specs.Making.{zeroObject}
 use Rattle.table.specs.Slots.{slots, blocksOf, recordsBack, floatsBack}
 use Rattle.predict.specs.Step.{eachPredicted}
 use Rattle.predict.proofs.Predicting.{records-long, floats-long, block-inside, record-unmoved, record-predicted, block-predicted}
-use Rattle.predict.proofs.Reading.{blank, read}
+use Rattle.table.proofs.Reading.{blank, read}
 use Rattle.predict.proofs.predict_each.Statement.{statement}
 use Rattle.predict.proofs.predict_each.Tie as tie
 

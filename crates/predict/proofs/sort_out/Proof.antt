@@ -9,14 +9,13 @@ use native.Mathlib.Numerals.{add-one}
 use borrow.Author.Needs.{needs}
 use lib.ListN.{length, getD}
 use Rattle.laws.specs.Lists.{below, keep, padded}
-use Rattle.laws.proofs.Growing.{length-snoc, padded-snoc}
+use Rattle.laws.proofs.Growing.{length-snoc, filled-snoc, joins, stays-out, at-most}
 use Rattle.parts.specs.declared.TrackerConfig.{TrackerConfig}
 use Rattle.parts.specs.declared.TrackedObject.{TrackedObject}
 use Rattle.table.specs.Making.{zeroObject}
 use Rattle.predict.specs.declared.Sort.{Sort}
 use Rattle.predict.specs.Step.{belongs}
-use Rattle.predict.proofs.Joining.{joins, stays-out, at-most}
-use Rattle.predict.proofs.Reading.{read}
+use Rattle.table.proofs.Reading.{read}
 use Rattle.predict.proofs.sort_out.Statement.{statement}
 use Rattle.predict.proofs.sort_out.Tie as tie
 
@@ -89,7 +88,7 @@ loop-again c =
     rw (add-one (loop .i)) (joins p (below (loop .i)) (loop .i) (sym (answered (c .before)) ∙ w .0 .taken)) in (
       omega arith,
       rw (u, length-snoc l (loop .i)) (w .2 ∙ add-one (loop .count) ∙ ap suc (loop .inv .1)),
-      rw u (w .1 ∙ rw (loop .inv .2, loop .inv .1) (padded-snoc 64 l (loop .i) (omega (arith, at-most p (loop .i))))),
+      rw u (w .1 ∙ rw (loop .inv .2, loop .inv .1) (filled-snoc 64 0 l (loop .i) (omega (arith, at-most p (loop .i))))),
     ))
     (λ w.
     let u : keep p (below (loop .i + 1)) ≡ l =
