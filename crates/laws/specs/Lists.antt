@@ -29,6 +29,16 @@ unfoldable pub times : ℕ → List ℕ → ℕ
 times x [] = 0
 times x (y ∷ l) = cond (eqb y x) 1 0 + times x l
 
+-- what the numbers of a list weigh together
+unfoldable pub weight : (ℕ → ℕ) → List ℕ → ℕ
+weight w [] = 0
+weight w (x ∷ l) = w x + weight w l
+
+-- n numbers from a first one on
+unfoldable pub upFrom : ℕ → ℕ → List ℕ
+upFrom first zero = []
+upFrom first (suc n) = first ∷ upFrom (suc first) n
+
 -- a list in an array of n places: the same element in all places behind its end
 abbrev pub filled : {A : Type 0} → ℕ → A → List A → List A
 filled n x l = l ++ replicate (n - length l) x

@@ -6,11 +6,12 @@ use Prim.Native.Nat.{ℕ, zero, suc, _<_, _≤_}
 use native.Mathlib.Omega.{arith}
 use lib.ListN.{length, set, length-map}
 use Rattle.laws.specs.Lists.{times}
+use Rattle.laws.specs.Turns.{through}
 use Rattle.matching.specs.declared.Place.{Place}
 use Rattle.matching.specs.declared.Place.the-variants.{At, Nothing}
-use Rattle.matching.specs.Greedy.{Matrix, free, eligible, nextPick, Pick, rowsOf, colsOf, pickThen, greedy, picks}
+use Rattle.matching.specs.Greedy.{Matrix, free, marked, eligible, nextPick, Pick, rowsOf, colsOf, pickThen, greedy, picks}
 use Rattle.matching.proofs.NextPick.{Finite, FirstSmallest, Pickable, eligible-parts, next-is-pickable, next-is-first-smallest, next-is-none}
-use Rattle.matching.proofs.Taken.{freeBelow, freeBelow-at-most, falls, marked, free-before, Taken, none, next, taken-at-most, taken-once, used-not-taken, past-not-taken}
+use Rattle.matching.proofs.Taken.{freeBelow, freeBelow-at-most, falls, free-before, Taken, none, next, taken-at-most, taken-once, used-not-taken, past-not-taken}
 
 -- l is what at most k turns pick, from these flags on: the laws are proved by going along it
 data Run (m : Matrix) : ℕ → List Bool → List Bool → List Pick → Type 0 where
@@ -33,7 +34,7 @@ module _ {m : Matrix} where
   -- the pick after some picks is the next one at the flags that these leave
   run-next : {k : ℕ} (ur uc : List Bool) (before : List Pick) (p : Pick) (after : List Pick) → Run m k ur uc (before ++ (p ∷ after))
       → nextPick m (marked (rowsOf before) ur) (marked (colsOf before) uc) ≡ At (p .row) (p .col)
-  unfolding marked
+  unfolding through
   run-next ur uc [] p after (pick e r) = e
   run-next ur uc (q ∷ before) p after (pick e r) = run-next (set ur (q .row) true) (set uc (q .col) true) before p after r
 
@@ -48,7 +49,7 @@ module _ {m : Matrix} where
   -- each pick uses a free row up, so that as many turns as there are free rows suffice to leave none
   run-ends : {k : ℕ} {ur uc : List Bool} {l : List Pick} → Run m k ur uc l → freeBelow (m .rows) ur ≤ k
       → (a b : ℕ) → a < m .rows → b < m .cols → eligible m (marked (rowsOf l) ur) (marked (colsOf l) uc) a b ≡ false
-  unfolding marked
+  unfolding through
   run-ends (out-of-turns {ur} {uc}) few =
       λ a b ha hb. not-eq-not {b = false} .0 λ t. omega (arith, falls (m .rows) ur a ha (eligible-parts m ur uc a b t .1))
   run-ends (no-place {ur = ur} {uc = uc} e) few = next-is-none m ur uc e

@@ -3,7 +3,7 @@
 use mathlib.Core.Path.{_≡_, refl, sym, ap, _∙_}
 use mathlib.Core.Logic.{_≢_}
 use mathlib.Core.Bool.{Bool, true, false, not, and-false, _&&_, cond}
-use mathlib.Core.List.{List, [], _∷_}
+use mathlib.Core.List.{List, [], _∷_, _++_}
 use Prim.Native.Nat.{ℕ, zero, suc, _+_, _<_, _≤_, zero-le}
 use native.Mathlib.Decide.{ℕ-discrete}
 use native.Mathlib.Nat.{le-refl}
@@ -13,7 +13,8 @@ use lib.Dec.{eqb, ltb}
 use lib.ListN.{length, set}
 use lib.Seq.{getD-set-other}
 use Rattle.laws.specs.Lists.{times}
-use Rattle.matching.specs.Greedy.{free}
+use Rattle.laws.specs.Turns.{through}
+use Rattle.matching.specs.Greedy.{free, marked}
 
 -- ---- one flag set
 -- past the flags none is free either
@@ -57,13 +58,9 @@ falls (suc n) u i h f = go (ℕ-discrete n i) (falls n u i)
     go (no d) rest = rw (others-kept u i n d) (omega (arith, rest (omega arith) f))
 
 -- ---- a list of flags set
-unfoldable pub marked : List ℕ → List Bool → List Bool
-marked [] u = u
-marked (i ∷ l) u = marked l (set u i true)
-
 -- marking frees none
 pub free-before : (l : List ℕ) (u : List Bool) (x : ℕ) → free (marked l u) x ≡ true → free u x ≡ true
-unfolding marked
+unfolding through
 free-before [] u x f = f
 free-before (i ∷ l) u x f = go (ℕ-discrete x i) (free-before l (set u i true) x f)
   where
@@ -79,12 +76,18 @@ pub data Taken (n : ℕ) : List Bool → List ℕ → Type 0 where
 module _ {n : ℕ} where
   -- as many fewer are free as were taken
   pub taken-falls : {u : List Bool} {l : List ℕ} → Taken n u l → freeBelow n u ≡ length l + freeBelow n (marked l u)
-  unfolding marked
+  unfolding through
   taken-falls none = omega arith
   taken-falls (next {u} {i} {l} h f t) = omega (arith, falls n u i h f, taken-falls t)
 
   pub taken-at-most : {u : List Bool} {l : List ℕ} → Taken n u l → length l ≤ n
   taken-at-most {u} t = omega (arith, freeBelow-at-most n u, taken-falls t)
+
+  -- a list taken behind another
+  pub taken-append : {u : List Bool} {l m : List ℕ} → Taken n u l → Taken n (marked l u) m → Taken n u (l ++ m)
+  unfolding through
+  taken-append none t = t
+  taken-append (next h f r) t = next h f (taken-append r t)
 
   -- only a number below n that was free at the start is taken, and once at most
   pub taken-times : {u : List Bool} {l : List ℕ} → Taken n u l → (x : ℕ) → times x l ≤ cond (free u x && ltb x n) 1 0

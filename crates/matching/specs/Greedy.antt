@@ -5,6 +5,7 @@ use mathlib.Core.List.{List, [], _∷_, map}
 use Prim.Native.Nat.{ℕ, zero, suc}
 use lib.ListN.{length, getD, set}
 use lib.Ieee.{Float, lt}
+use Rattle.laws.specs.Turns.{through}
 use Rattle.matching.specs.declared.Place.{Place}
 use Rattle.matching.specs.declared.Place.the-variants.{At, Nothing}
 
@@ -18,6 +19,13 @@ pub record Matrix : Type 0 where
 -- a row or column is free if its flag is not set; past the flags none is
 abbrev pub free : List Bool → ℕ → Bool
 free used i = not (getD used i true)
+
+-- the flags of a list of rows or columns set, or cleared
+abbrev pub marked : List ℕ → List Bool → List Bool
+marked l used = through (λ i u. set u i true) l used
+
+abbrev pub cleared : List ℕ → List Bool → List Bool
+cleared l used = through (λ i u. set u i false) l used
 
 -- an entry that counts and whose row and column are free
 abbrev pub eligible : Matrix → List Bool → List Bool → ℕ → ℕ → Bool

@@ -40,7 +40,7 @@ returns c =
     sym
     (c .before .before .before .loop .inv .1
     ∙ any-here (λ y. eqb y (s .args .x)) (take (s .args .n) (s .args .numbers .now)) i 0 (omega (arith, whole s))
-    (rw (getD-take (s .args .n) (s .args .numbers .now) i 0 (c .before .before .loop-test .taken)) (eq-eqb _ _ (c .if1 .taken))))
+    (rw (getD-take (s .args .n) (s .args .numbers .now) i 0 (omega arith)) (eq-eqb _ _ (c .if1 .taken))))
 
 add-i : tie.Need-add-i Inv-loop μ-loop
 add-i c = search needs
@@ -55,7 +55,7 @@ loop-again c =
       omega arith,
       rw add-one (c .before .before .before .loop .inv .1
           ∙ any-on (λ y. eqb y (s .args .x)) (take (s .args .n) (s .args .numbers .now)) i 0 (omega (arith, whole s))
-          (rw (getD-take (s .args .n) (s .args .numbers .now) i 0 (c .before .before .loop-test .taken)) (ne-eqb _ _ (c .if1 .left)))),
+          (rw (getD-take (s .args .n) (s .args .numbers .now) i 0 (omega arith)) (ne-eqb _ _ (c .if1 .left)))),
     )
 
 returns-2 : tie.Need-returns-2 Inv-loop μ-loop

@@ -1,7 +1,7 @@
 -- `parts::points::fall_points` meets its contract: after i turns the counters are those of i turns.
 use mathlib.Core.Path.{_≡_, refl, ap}
 use Prim.Native.Nat.{_≤_, _-_}
-use native.Mathlib.Omega.{arith}
+use native.Mathlib.Nat.{le-antisymm}
 use borrow.Author.Needs.{needs}
 use lib.ListN.{set}
 use Rattle.laws.specs.Turns.{turns}
@@ -48,9 +48,7 @@ loop-again c =
     (search needs, turns-next _ (loop .i) _ (ap (set (loop .counters) (loop .i)) (c .lowered .ensures)) (loop .inv .1))
 
 returns : tie.Need-returns Inv-loop μ-loop
-returns c =
-    let e : c .before .loop .i ≡ c .before .before .args .n = omega arith in
-    rw e at (c .before .loop .inv .1)
+returns c = rw (le-antisymm (c .before .loop .inv .0) (c .loop-test .left)) at (c .before .loop .inv .1)
 
 pub fall-points-spec : {M : Type 1} → statement M
 fall-points-spec =
