@@ -1,6 +1,8 @@
 -- Laws that several crates cite.
 pub mod Cells
+pub mod Counting
 pub mod Elements
+pub mod Every
 pub mod Finite
 pub mod Flags
 pub mod FloatOrder
@@ -12,3 +14,4 @@ pub mod Search
 pub mod Signed
 pub mod Through
 pub mod Turns
+pub mod Weighing

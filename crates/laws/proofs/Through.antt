@@ -1,11 +1,11 @@
--- A list in turn: two lists one after the other, one element more, and what every turn keeps.
+-- A list in turn: two lists one after the other, one element more, and what every turn keeps and gives.
 use mathlib.Core.Path.{_≡_, refl, _∙_, ap}
-use mathlib.Core.List.{List, [], _∷_, _++_}
+use mathlib.Core.List.{List, [], _∷_, _++_, map, map-append}
 use Prim.Native.Nat.{ℕ, suc, _+_, _<_}
 use native.Mathlib.Numerals.{add-one}
 use lib.ListN.{length, getD, take}
 use lib.Seq.{take-suc}
-use Rattle.laws.specs.Turns.{through}
+use Rattle.laws.specs.Turns.{through, gathered}
 
 module _ {X A : Type 0} (turn : X → A → A) where
   pub through-append : (l m : List X) (a : A) → through turn (l ++ m) a ≡ through turn m (through turn l a)
@@ -25,3 +25,25 @@ module _ {X A : Type 0} (turn : X → A → A) where
   unfolding through
   through-hold P [] a kept p = p
   through-hold P (x ∷ l) a kept p = through-hold P l (turn x a) kept (kept x a p)
+
+  pub through-keep : {B : Type 0} (view : A → B) → ((x : X) (a : A) → view (turn x a) ≡ view a) → (l : List X) (a : A)
+      → view (through turn l a) ≡ view a
+  through-keep view kept l a = through-hold (λ b. view b ≡ view a) l a (λ x b e. kept x b ∙ e) refl
+
+  -- a turn that gives one thing for its element gives the elements again
+  pub gathered-each : {B : Type 0} (gives : X → A → List B) (of : B → X) → ((x : X) (a : A) → map of (gives x a) ≡ x ∷ [])
+      → (l : List X) (a : A) → map of (gathered turn gives l a) ≡ l
+  unfolding gathered
+  gathered-each gives of each [] a = refl
+  gathered-each gives of each (x ∷ l) a =
+      map-append of (gives x a) (gathered turn gives l (turn x a)) ∙ rw (each x a, gathered-each gives of each l (turn x a))
+
+-- what is so of a state that stays, of two stretches in a row and of each turn with all it gives is so of all turns with all they give
+module _ {X A B C : Type 0} (turn : X → A → A) (gives : X → A → List B) (also : X → A → List C)
+    (R : A → List B → List C → A → Type 0) (stays : (a : A) → R a [] [] a)
+    (joined : (a b c : A) (l m : List B) (k n : List C) → R a l k b → R b m n c → R a (l ++ m) (k ++ n) c)
+    (each : (x : X) (a : A) → R a (gives x a) (also x a) (turn x a)) where
+  pub gathered-told : (l : List X) (a : A) → R a (gathered turn gives l a) (gathered turn also l a) (through turn l a)
+  unfolding gathered through
+  gathered-told [] a = stays a
+  gathered-told (x ∷ l) a = joined _ _ _ _ _ _ _ (each x a) (gathered-told l (turn x a))

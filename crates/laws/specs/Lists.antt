@@ -1,9 +1,9 @@
 -- Lists that definitions speak of: the numbers below a count, those that pass a test, whether one does, how often a number stands in a list, and a list in a fixed array.
 use mathlib.Core.Bool.{Bool, true, false, _||_, cond}
 use mathlib.Core.List.{List, [], _∷_, _++_}
-use Prim.Native.Nat.{ℕ, zero, suc, _+_, _-_}
+use Prim.Native.Nat.{ℕ, zero, suc, _+_, _-_, _<_}
 use lib.Dec.{eqb}
-use lib.ListN.{length, replicate}
+use lib.ListN.{length, getD, replicate}
 
 -- 0, 1 and so on below n, ascending
 unfoldable pub below : ℕ → List ℕ
@@ -38,6 +38,10 @@ weight w (x ∷ l) = w x + weight w l
 unfoldable pub upFrom : ℕ → ℕ → List ℕ
 upFrom first zero = []
 upFrom first (suc n) = first ∷ upFrom (suc first) n
+
+-- the first n are below a limit
+abbrev pub EachBelow : ℕ → ℕ → List ℕ → Type 0
+EachBelow limit n l = (i : ℕ) → i < n → getD l i 0 < limit
 
 -- a list in an array of n places: the same element in all places behind its end
 abbrev pub filled : {A : Type 0} → ℕ → A → List A → List A

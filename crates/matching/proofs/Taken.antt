@@ -13,6 +13,8 @@ use lib.Dec.{eqb, ltb}
 use lib.ListN.{length, set}
 use lib.Seq.{getD-set-other}
 use Rattle.laws.specs.Lists.{times}
+use Rattle.laws.proofs.Counting.{bit-at-most-one}
+use Rattle.laws.proofs.Every.{Every}
 use Rattle.laws.specs.Turns.{through}
 use Rattle.matching.specs.Greedy.{free, marked}
 
@@ -30,10 +32,6 @@ others-kept u i j h = ap not (getD-set-other u i j true true h)
 unfoldable pub freeBelow : ℕ → List Bool → ℕ
 freeBelow zero u = 0
 freeBelow (suc n) u = cond (free u n) 1 0 + freeBelow n u
-
-bit-at-most-one : (b : Bool) → cond b 1 0 ≤ 1
-bit-at-most-one true = omega arith
-bit-at-most-one false = omega arith
 
 pub freeBelow-at-most : (n : ℕ) (u : List Bool) → freeBelow n u ≤ n
 unfolding freeBelow
@@ -88,6 +86,10 @@ module _ {n : ℕ} where
   unfolding through
   taken-append none t = t
   taken-append (next h f r) t = next h f (taken-append r t)
+
+  pub taken-below : {u : List Bool} {l : List ℕ} → Taken n u l → Every (λ i. i < n) l
+  taken-below none = Every.none
+  taken-below (next h f t) = Every.one h (taken-below t)
 
   -- only a number below n that was free at the start is taken, and once at most
   pub taken-times : {u : List Bool} {l : List ℕ} → Taken n u l → (x : ℕ) → times x l ≤ cond (free u x && ltb x n) 1 0

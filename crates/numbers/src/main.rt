@@ -2,6 +2,9 @@
 ghost use mathlib.Core.Path.{_≡_};
 ghost use Prim.Native.Nat.{_≤_};
 ghost use lib.Signed.{mag};
+
+mod frames;
+
 use filter::FilterSettings;
 use libc::STDOUT_FILENO;
 use parts::PastDetection;
@@ -15,6 +18,8 @@ fn main() {
     full_history(3, 12);
     full_history(3, 11);
     full_history(-1, 12);
+    frames::seventh_hit();
+    frames::coarse_and_fine();
 }
 
 // Row (0, -0), threshold 1: the two tie, and the first is picked.

@@ -12,7 +12,7 @@ use lib.Ieee.{Float}
 use lib.ListN.{length, getD, take, drop, replicate}
 use lib.Seq.{take-at, take-append-seam}
 use Rattle.laws.specs.Lists.{below, keep, any, holds, times}
-use Rattle.laws.proofs.Growing.{keep-snoc}
+use Rattle.laws.proofs.Counting.{bit-at-most-one, times-keep, times-below, holds-times}
 use Rattle.matching.specs.declared.Numbers.{Numbers}
 use Rattle.parts.specs.declared.TrackerConfig.{TrackerConfig}
 use Rattle.parts.specs.Layout.{blockSize}
@@ -92,41 +92,15 @@ listOf Dead l = l .dead
 abbrev pub numbersIn : Numbers → List ℕ
 numbersIn m = take (m .count) (m .at)
 
-times-added : (x y : ℕ) (b : Bool) (l : List ℕ) → times x (l ++ cond b (y ∷ []) []) ≡ times x l + cond (b && eqb y x) 1 0
-unfolding times
-times-added x y true [] = omega arith
-times-added x y false [] = refl
-times-added x y b (z ∷ l) = rw (times-added x y b l) (omega arith)
-
--- past n nothing is new but n
-one-further : (x n : ℕ) → eqb n x ≡ false → ltb x (suc n) ≡ ltb x n
-one-further x n e = go (ltb x n) refl
-  where
-    go : (b : Bool) → ltb x n ≡ b → ltb x (suc n) ≡ b
-    go true h = lt-ltb x (suc n) (omega (arith, ltb-true x n h))
-    go false h = ⊎-elim (λ (q : n ≡ x). absurd (eqb-false n x e q)) (λ (q : n < x). le-ltb x (suc n) q) (eq-or-lt-of-le (ltb-false x n h))
-
-next-place : (p : ℕ → Bool) (x n : ℕ) → cond (ltb x n && p x) 1 0 + cond (p n && eqb n x) 1 0 ≡ cond (ltb x (suc n) && p x) 1 0
-next-place p x n = go (eqb n x) refl
-  where
-    go : (b : Bool) → eqb n x ≡ b → cond (ltb x n && p x) 1 0 + cond (p n && b) 1 0 ≡ cond (ltb x (suc n) && p x) 1 0
-    go true e = let q : n ≡ x = eqb-true n x e in rw (q, le-ltb x x (omega arith), lt-ltb x (suc x) (omega arith), and-true (p x)) (omega arith)
-    go false e = rw (one-further x n e, and-false (p n)) (omega arith)
+in-both : (a b : Bool) → _≡_ {A = ℕ} (cond b (cond a 1 0) 0) (cond (a && b) 1 0)
+in-both true true = refl
+in-both true false = refl
+in-both false true = refl
+in-both false false = refl
 
 -- a place below the count stands in the list once if its record belongs there, and nothing else does
-times-below : (p : ℕ → Bool) (x n : ℕ) → times x (keep p (below n)) ≡ cond (ltb x n && p x) 1 0
-unfolding below keep times
-times-below p x zero = rw (le-ltb x 0 (omega arith))
-times-below p x (suc n) = rw (keep-snoc p (below n) n, times-added x n (p n) (keep p (below n)), times-below p x n) (next-place p x n)
-
-holds-times : (x : ℕ) (l : List ℕ) → holds x l ≡ ltb 0 (times x l)
-unfolding any times
-holds-times x [] = refl
-holds-times x (y ∷ l) = go (eqb y x) (holds-times x l)
-  where
-    go : (b : Bool) → holds x l ≡ ltb 0 (times x l) → (b || holds x l) ≡ ltb 0 (cond b 1 0 + times x l)
-    go true e = sym (lt-ltb 0 (1 + times x l) (omega arith))
-    go false e = let n : times x l ≡ 0 + times x l = omega arith in rw n at e
+times-fitting : (p : ℕ → Bool) (x n : ℕ) → times x (keep p (below n)) ≡ cond (ltb x n && p x) 1 0
+times-fitting p x n = times-keep x p (below n) ∙ rw (times-below x n) (in-both (ltb x n) (p x))
 
 above-zero : (b : Bool) → ltb 0 (cond b 1 0) ≡ b
 above-zero true = refl
@@ -135,10 +109,6 @@ above-zero false = refl
 first : (a b : Bool) → (a && b) ≡ true → a ≡ true
 first true b h = refl
 first false b h = h
-
-at-most-one : (b : Bool) → cond b 1 0 ≤ 1
-at-most-one true = omega arith
-at-most-one false = omega arith
 
 is-placed : (t : Table) (s : List Float) (sort : Sort)
     → listOf sort (predictTable t s .lists) ≡ placesOf (t .config) sort (length (slotsKept t s)) (objectsOf (slotsKept t s))
@@ -163,13 +133,13 @@ module _ (t : Table) (s : List Float) (sort : Sort) where
       rw (is-placed t s sort) (take-append-seam l (replicate (64 - length l) 0))
 
   listed-times : (x : ℕ) → times x listed ≡ cond (ltb x (predictTable t s .counts .records) && fitting x) 1 0
-  listed-times x = ap (times x) in-order ∙ times-below fitting x (predictTable t s .counts .records)
+  listed-times x = ap (times x) in-order ∙ times-fitting fitting x (predictTable t s .counts .records)
 
   pub membership : (i : ℕ) → holds i listed ≡ (ltb i (predictTable t s .counts .records) && fitting i)
   membership i = holds-times i listed ∙ ap (ltb 0) (listed-times i) ∙ above-zero (ltb i (predictTable t s .counts .records) && fitting i)
 
   pub listed-once : (x : ℕ) → times x listed ≤ 1
-  listed-once x = rw (listed-times x) (at-most-one (ltb x (predictTable t s .counts .records) && fitting x))
+  listed-once x = rw (listed-times x) (bit-at-most-one (ltb x (predictTable t s .counts .records) && fitting x))
 
   pub listed-below : (i : ℕ) → holds i listed ≡ true → i < predictTable t s .counts .records
   listed-below i h =

@@ -14,6 +14,9 @@ pub record Slot : Type 0 where
   pub object : TrackedObject
   pub block : List Float
 
+abbrev pub noSlot : Slot
+noSlot = record { object = zeroObject; block = [] }
+
 -- the first n records with their blocks of b floats
 unfoldable pub slots : ℕ → List TrackedObject → List Float → ℕ → List Slot
 slots b records floats zero = []

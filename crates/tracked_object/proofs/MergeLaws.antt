@@ -1,17 +1,15 @@
 -- Rules 61 and 62: what a merge keeps of the old record, and what it takes from the candidate.
 use mathlib.Core.Path.{_≡_, refl, sym, _∙_, ap}
 use mathlib.Core.Bool.{Bool, true, false, cond, _&&_}
-use mathlib.Core.List.{List, [], _∷_, _++_}
-use mathlib.Core.Logic.{⊎-elim}
-use Prim.Native.Nat.{ℕ, zero, suc, _+_, _-_, _*_, _<_, _≤_, min}
-use native.Mathlib.Nat.{mul-one, suc-mul, mul-le-mul-right, eq-or-lt-of-le, zero-add, add-zero}
+use mathlib.Core.List.{List, [], _∷_}
+use Prim.Native.Nat.{ℕ, zero, suc, _+_, _*_, _<_, _≤_}
+use native.Mathlib.Nat.{suc-mul, mul-le-mul-right, zero-add, add-zero}
 use native.Mathlib.Omega.{arith}
 use lib.Dec.{ltb}
 use lib.Ieee.{Float}
 use lib.IntN.{pos, negsuc}
-use lib.ListN.{length, getD, take, drop, length-drop, List·getD-append}
-use lib.Seq.{paste, length-paste, length-take-le, take-take, take-at, getD-take, getD-drop, getD-at}
-use lib.Signed.{mag}
+use lib.ListN.{length, getD, take, drop, length-drop}
+use lib.Seq.{paste, length-paste, length-take-le, take-take, take-at}
 use Rattle.laws.specs.Turns.{turns}
 use Rattle.laws.proofs.Turns.{turns-hold}
 use Rattle.laws.proofs.Pasting.{paste-front, paste-behind, paste-part}
@@ -21,9 +19,9 @@ use Rattle.parts.specs.declared.PastDetection.{PastDetection}
 use Rattle.parts.specs.declared.ReidCounter.the-variants.{Absent}
 use Rattle.parts.specs.Layout.{coords, width, lastAt, pastAt, blockSize}
 use Rattle.parts.specs.Ranges.{Sizes, ObjectInRange, AgesInRange, unaged}
-use Rattle.parts.specs.Past.{pushed}
 use Rattle.tracked_object.specs.Object.{History, history, takes, added, conditionallyAdded, entryOf, historyMerged, taken, merging, objectMerged, blockMerged}
-use Rattle.parts.proofs.PastLaws.{length-pushed, history-after, history-elsewhere}
+use Rattle.parts.proofs.PastLaws.{length-pushed, history-elsewhere}
+use Rattle.tracked_object.proofs.AgeLaws.{ages-kept}
 
 -- ---- whether an entry is taken
 
@@ -44,25 +42,6 @@ module _ (c : TrackerConfig) (four : c .«past_detections_length» ≡ 4) (has :
   not-taken-without-age age = rw four
 
 -- ---- what entries leave as it was
-
--- the ages of a history with one entry more
-pub ages-kept : (most count : ℕ) (e : PastDetection) (marks : List PastDetection) → 0 < most → count ≤ most → most ≤ length marks
-    → mag (e .age) ≤ 200000000 → AgesInRange count marks → AgesInRange (min (count + 1) most) (pushed most 1 0 count (e ∷ []) marks)
-ages-kept most count e marks some full fits young ages i h =
-    let left = count + 1 - min (count + 1) most in
-    let next = pushed most 1 0 count (e ∷ []) marks in
-    let all = take count marks ++ (e ∷ []) in
-    let long = length-take-le count marks (omega arith) in
-    let after : take (min (count + 1) most) next ≡ drop left all =
-    rw (mul-one (min (count + 1) most), mul-one left, mul-one count) at (history-after most 1 0 count marks some full (omega arith) (e ∷ []) refl) in
-    let read : getD next i unaged ≡ getD all (left + i) unaged =
-    sym (getD-take (min (count + 1) most) next i unaged h) ∙ ap (λ (r : List PastDetection). getD r i unaged) after ∙ getD-drop left all i unaged in
-    rw read
-    (⊎-elim
-    (λ (q : left + i ≡ count). rw (q, getD-at (take count marks) e [] unaged count long) young)
-    (λ (q : left + i < count).
-    rw (List·getD-append (take count marks) (e ∷ []) unaged (left + i) (omega arith), getD-take count marks (left + i) unaged q) (ages (left + i) q))
-    (eq-or-lt-of-le (omega arith)))
 
 -- entry i lies in the block
 pub entry-inside : (c : TrackerConfig) (i : ℕ) → i < c .«past_detections_length» → pastAt c + i * width c + width c ≤ blockSize c
@@ -105,7 +84,7 @@ module _ (c : TrackerConfig) (sizes : Sizes c) (age : ℕ) (young : age ≤ 2000
       record {
         counted = omega arith;
         eight = length-pushed most 1 0 (h .count) (h .marks) some (k .counted) (omega arith) (e ∷ []) refl ∙ k .eight;
-        aged = ages-kept most (h .count) e (h .marks) some (k .counted) fits young (k .aged);
+        aged = ages-kept most (h .count) e (h .marks) some (k .counted) young (k .aged);
         long = length-pushed most (width c) (pastAt c) (h .count) (h .floats) some (k .counted) (omega arith) entry whole ∙ k .long;
         kept = history-elsewhere most (width c) (pastAt c) (h .count) (h .floats) some (k .counted) (omega arith) entry whole .0 ∙ k .kept;
       })

@@ -5,14 +5,18 @@ use mathlib.Core.List.{List}
 use Prim.Native.Nat.{ℕ}
 use borrow.Author.Tests.{ne-eqb}
 use lib.Dec.{eqb}
-use lib.ListN.{length}
+use lib.ListN.{length, drop}
+use lib.Seq.{drop-append-seam}
 use lib.Ieee.{Float}
 use Rattle.parts.specs.declared.TrackerConfig.{TrackerConfig}
 use Rattle.table.specs.declared.Table.{Table}
 use Rattle.table.specs.declared.Answer.{Answer}
 use Rattle.table.specs.Making.{made}
+use Rattle.pairs.specs.declared.Pair.{Pair}
+use Rattle.passes.specs.Checks.{Frame}
+use Rattle.matching_step.specs.Step.{matchRefusal, listedPairs, matchedFloats}
 use Rattle.tracker.specs.declared.Count.{Count}
-use Rattle.tracker.specs.Calls.{predictRefusal, predictAnswer, predictStorage, totalAnswer, currentAnswer}
+use Rattle.tracker.specs.Calls.{predictRefusal, predictAnswer, predictStorage, matchAnswer, matchPairs, totalAnswer, currentAnswer}
 
 -- ---- the statements, as the contracts have them
 
@@ -21,6 +25,9 @@ NewSays c s a = a ≡ made c (length s)
 
 abbrev pub PredictSays : Table → List Float → Answer → List Float → Type 0
 PredictSays t s a s′ = (a ≡ predictAnswer t s) × (s′ ≡ predictStorage t s)
+
+abbrev pub MatchSays : Table → List Float → ℕ → Frame → List Pair → Answer → List Float → List Pair → Type 0
+MatchSays t s n f l a s′ l′ = (a ≡ matchAnswer t s n f (length l)) × (s′ ≡ matchedFloats t s n f (length l)) × (l′ ≡ matchPairs t s n f l)
 
 abbrev pub TotalSays : Table → Count → Type 0
 TotalSays t n = n ≡ totalAnswer t
@@ -37,6 +44,10 @@ pub predict-determined : (t : Table) (s : List Float) (a b : Answer) (s₁ s₂ 
     → PredictSays t s a s₁ → PredictSays t s b s₂ → (a ≡ b) × (s₁ ≡ s₂)
 predict-determined t s a b s₁ s₂ p q = (p .0 ∙ sym (q .0), p .1 ∙ sym (q .1))
 
+pub match-determined : (t : Table) (s : List Float) (n : ℕ) (f : Frame) (l : List Pair) (a b : Answer) (s₁ s₂ : List Float) (l₁ l₂ : List Pair)
+    → MatchSays t s n f l a s₁ l₁ → MatchSays t s n f l b s₂ l₂ → (a ≡ b) × (s₁ ≡ s₂) × (l₁ ≡ l₂)
+match-determined t s n f l a b s₁ s₂ l₁ l₂ p q = (p .0 ∙ sym (q .0), p .1 ∙ sym (q .1), p .2 ∙ sym (q .2))
+
 pub total-determined : (t : Table) (m n : Count) → TotalSays t m → TotalSays t n → m ≡ n
 total-determined t m n p q = p ∙ sym q
 
@@ -49,3 +60,20 @@ pub predict-refused : (t : Table) (s : List Float) → (predictRefusal t s ≡ 0
     → (predictAnswer t s .table ≡ t) × (predictAnswer t s .count ≡ 0) × (predictStorage t s ≡ s)
 unfolding predictAnswer predictStorage
 predict-refused t s refused = let e = ne-eqb (predictRefusal t s) 0 refused in (rw e, refl, rw e)
+
+-- ---- a refused step 2 returns the table, the count 0, and leaves the storage and the pair list
+
+pub match-refused : (t : Table) (s : List Float) (n : ℕ) (f : Frame) (l : List Pair) → (matchRefusal t s n f (length l) ≡ 0 → ⊥) →
+    let a = matchAnswer t s n f (length l) in
+    (a .table ≡ t) × (a .count ≡ 0) × (matchedFloats t s n f (length l) ≡ s) × (matchPairs t s n f l ≡ l)
+unfolding matchAnswer matchedFloats matchPairs
+match-refused t s n f l refused =
+    let e = ne-eqb (matchRefusal t s n f (length l)) 0 refused in
+    (rw e, rw e, rw e, rw e)
+
+-- an accepted one writes no more of the pair list than the entries that it counts
+pub rest-of-pairs : (t : Table) (s : List Float) (n : ℕ) (f : Frame) (l : List Pair) →
+    let count = matchAnswer t s n f (length l) .count in
+    drop count (matchPairs t s n f l) ≡ drop count l
+unfolding matchAnswer matchPairs
+rest-of-pairs t s n f l = drop-append-seam (listedPairs t s n f (length l)) (drop (length (listedPairs t s n f (length l))) l)

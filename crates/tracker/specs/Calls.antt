@@ -1,10 +1,10 @@
 -- Rules 11 to 13, 64, 70 and 71: each public call's answer and what it leaves in the storage, refusals among the cases.
 use mathlib.Core.Bool.{Bool, not, _&&_, cond}
-use mathlib.Core.List.{List}
+use mathlib.Core.List.{List, _++_}
 use Prim.Native.Nat.{ℕ, _-_}
 use lib.Dec.{eqb}
 use lib.IntN.{pos}
-use lib.ListN.{length, take}
+use lib.ListN.{length, take, drop}
 use lib.Signed.{leZ}
 use lib.Ieee.{Float}
 use Rattle.laws.specs.Lists.{keep}
@@ -13,6 +13,10 @@ use Rattle.table.specs.declared.Table.{Table}
 use Rattle.table.specs.declared.Answer.{Answer}
 use Rattle.table.specs.Making.{answerOf}
 use Rattle.table.specs.Refusals.{firstDue, predictChecks, countChecks}
+use Rattle.pairs.specs.declared.Pair.{Pair}
+use Rattle.passes.specs.Checks.{Frame}
+use Rattle.matching_step.specs.declared.Matched.{Matched}
+use Rattle.matching_step.specs.Step.{matchRefusal, accepted, listedPairs, matchTable}
 use Rattle.predict.specs.Step.{predictTable, predictFloats}
 use Rattle.tracker.specs.declared.Count.{Count}
 
@@ -26,6 +30,25 @@ predictAnswer t s = answerOf (predictRefusal t s) (cond (eqb (predictRefusal t s
 
 unfoldable pub predictStorage : Table → List Float → List Float
 predictStorage t s = cond (eqb (predictRefusal t s) 0) (predictFloats t s) s
+
+-- ---- step 2: its pairs are listed in front, the rest of the list is untouched
+
+unfoldable pub matchAnswer : Table → List Float → ℕ → Frame → ℕ → Answer
+matchAnswer t s detections f places =
+    record {
+      refusal = matchRefusal t s detections f places;
+      count = length (listedPairs t s detections f places);
+      table = cond (accepted t s detections f places) (matchTable t s detections f) t;
+    }
+
+-- what is left of the step's result without its pairs
+abbrev pub answerFrom : Matched → Answer
+answerFrom m = record { refusal = m .refusal; count = m .count; table = m .table }
+
+unfoldable pub matchPairs : Table → List Float → ℕ → Frame → List Pair → List Pair
+matchPairs t s detections f list =
+    let l = listedPairs t s detections f (length list) in
+    l ++ drop (length l) list
 
 -- ---- counts
 

@@ -3,7 +3,10 @@ ghost use mathlib.Core.Path.{_≡_};
 ghost use Prim.Native.Nat.{_≤_};
 ghost use lib.ListN.{length};
 ghost use Rattle.table.specs.Making.{made};
-ghost use Rattle.tracker.specs.Calls.{predictAnswer, predictStorage, totalAnswer, currentAnswer, active, activeOf};
+ghost use Rattle.passes.specs.Checks.{frame};
+ghost use Rattle.matching_step.specs.Step.{matchedFloats};
+ghost use Rattle.tracker.specs.Calls.{answerFrom, predictAnswer, predictStorage, matchAnswer, matchPairs, totalAnswer, currentAnswer, active, activeOf};
+pub use pairs::Pair;
 pub use parts::ReidCounter;
 pub use parts::TrackerConfig;
 pub use table::Answer;
@@ -39,6 +42,49 @@ pub fn predict(t: Table, storage: &mut [f64]) -> Answer
     Answer {
         refusal,
         count: 0,
+        table,
+    }
+}
+
+// Step 2: match, hit, open; or refusal 5, 4, 6, 8, 9, 10, 11, 12, 13 or 14 and nothing changed.
+pub fn match_detections(
+    t: Table,
+    storage: &mut [f64],
+    period: u32,
+    detections: usize,
+    points: &[f64],
+    scores: &[f64],
+    has_scores: &[u8],
+    distances: &[f64],
+    pairs: &mut [Pair],
+) -> Answer
+    ensures { λ r. ⌜ r ≡ matchAnswer t (now (storage .entry)) detections (frame period (now (points .entry)) (now (scores .entry)) (now («has_scores» .entry)) (now (distances .entry))) (length (now (pairs .entry))) ⌝ }
+    ensures { λ _. ⌜ now (storage .exit) ≡ matchedFloats t (now (storage .entry)) detections (frame period (now (points .entry)) (now (scores .entry)) (now («has_scores» .entry)) (now (distances .entry))) (length (now (pairs .entry))) ⌝ }
+    ensures { λ _. ⌜ now (pairs .exit) ≡ matchPairs t (now (storage .entry)) detections (frame period (now (points .entry)) (now (scores .entry)) (now («has_scores» .entry)) (now (distances .entry))) (now (pairs .entry)) ⌝ }
+{
+    let m = matching_step::stepping::match_table(
+        t,
+        storage,
+        period,
+        detections,
+        points,
+        scores,
+        has_scores,
+        distances,
+        pairs.len(),
+    );
+    pairs::put_pairs(pairs, m.pairs, m.count);
+    answer_of(m)
+}
+
+// The answer without the pairs.
+fn answer_of(m: matching_step::Matched) -> Answer
+    ensures { λ r. ⌜ r ≡ answerFrom m ⌝ }
+{
+    let table = m.table;
+    Answer {
+        refusal: m.refusal,
+        count: m.count,
         table,
     }
 }

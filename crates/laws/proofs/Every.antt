@@ -1,0 +1,53 @@
+-- A fact of every element of a list: of two lists, of one replaced, of those that a test keeps, of the numbers below a count.
+use mathlib.Core.Path.{_≡_, refl}
+use mathlib.Core.Bool.{Bool, true, false, cond}
+use mathlib.Core.List.{List, [], _∷_, _++_, map}
+use Prim.Native.Nat.{ℕ, zero, suc, _<_}
+use native.Mathlib.Nat.{le-of-suc-le-suc}
+use native.Mathlib.Omega.{arith}
+use lib.ListN.{length, getD, set}
+use Rattle.laws.specs.Lists.{below, keep}
+
+pub data Every {A : Type 0} (P : A → Type 0) : List A → Type 0 where
+  none : Every P []
+  one : {x : A} {l : List A} → P x → Every P l → Every P (x ∷ l)
+
+pub every-append : {A : Type 0} {P : A → Type 0} {l m : List A} → Every P l → Every P m → Every P (l ++ m)
+every-append none s = s
+every-append (one p r) s = one p (every-append r s)
+
+module _ {A : Type 0} {P Q : A → Type 0} (weaker : (x : A) → P x → Q x) where
+  pub every-weaker : {l : List A} → Every P l → Every Q l
+  every-weaker none = none
+  every-weaker (one {x} p r) = one (weaker x p) (every-weaker r)
+
+  -- one element replaced
+  pub every-set : {l : List A} (i : ℕ) (y d : A) → Every P l → (P (getD l i d) → Q y) → Every Q (set l i y)
+  every-set i y d none f = none
+  every-set zero y d (one p r) f = one (f p) (every-weaker r)
+  every-set (suc i) y d (one {x} p r) f = one (weaker x p) (every-set i y d r f)
+
+-- maps that agree on every element
+pub every-alike : {A B : Type 0} (f g : A → B) {l : List A} → Every (λ x. f x ≡ g x) l → map f l ≡ map g l
+every-alike f g none = refl
+every-alike f g (one p r) = rw (p, every-alike f g r)
+
+module _ {A : Type 0} {P : A → Type 0} where
+  pub every-at : {l : List A} (i : ℕ) (d : A) → Every P l → i < length l → P (getD l i d)
+  every-at i d none h = absurd (omega arith)
+  every-at zero d (one p r) h = p
+  every-at (suc i) d (one p r) h = every-at i d r (le-of-suc-le-suc h)
+
+  kept : (x : A) (l : List A) (b : Bool) → P x → Every P l → Every P (cond b (x ∷ l) l)
+  kept x l true p r = one p r
+  kept x l false p r = r
+
+  pub every-keep : {l : List A} (q : A → Bool) → Every P l → Every P (keep q l)
+  unfolding keep
+  every-keep q none = none
+  every-keep q (one {x} {l} p r) = kept x (keep q l) (q x) p (every-keep q r)
+
+pub every-below : (n : ℕ) → Every (λ i. i < n) (below n)
+unfolding below
+every-below zero = none
+every-below (suc n) = every-append (every-weaker (λ i h. omega arith) (every-below n)) (one (omega arith) none)

@@ -1,0 +1,111 @@
+-- Rules 45 and 46: what hit_at and open_at lend on: a record's block, and a detection's coordinates and scores.
+use mathlib.Core.Path.{_≡_, sym, _∙_, ap}
+use mathlib.Core.List.{List, _++_, append-assoc}
+use Prim.Native.Nat.{ℕ, _+_, _-_, _*_, _<_, _≤_}
+use native.Mathlib.Omega.{arith}
+use lib.Ieee.{Float}
+use lib.ListN.{length, take, drop, length-drop}
+use lib.Seq.{paste, length-take-le, take-all, drop-drop}
+use Rattle.parts.specs.declared.TrackerConfig.{TrackerConfig}
+use Rattle.parts.specs.declared.block.Layout.{Layout}
+use Rattle.parts.specs.Layout.{coords, blockSize, layoutOf}
+use Rattle.tracked_object.specs.Object.{Detection, detection}
+use Rattle.table.proofs.SlotLaws.{block-fits}
+use Rattle.passes.specs.Checks.{Frame, frame}
+use Rattle.matching_step.specs.Step.{Fits, lentDetection}
+
+-- ---- n elements from a place on
+
+module _ {A : Type 0} (l : List A) (at n : ℕ) where
+  part : at + n - at ≡ n
+  part = omega arith
+
+  pub part-same : take (at + n - at) (drop at l) ≡ take n (drop at l)
+  part-same = rw part
+
+  long : at + n ≤ length l → length (take n (drop at l)) ≡ n
+  long h = length-take-le n (drop at l) (omega (arith, length-drop at l))
+
+  pub part-long : at + n ≤ length l → length (take (at + n - at) (drop at l)) ≡ n
+  part-long h = rw part (long h)
+
+  -- as many put back
+  pub part-back : (ys : List A) → length ys ≡ n → take at l ++ (ys ++ drop (at + n - at) (drop at l)) ≡ paste l at ys n
+  part-back ys e =
+      rw (part, drop-drop n at l, take-all n ys (omega arith)) (sym (append-assoc (take at l) ys (drop (at + n) l)))
+
+-- ---- detection d of the frame
+
+-- the matrix is not lent on
+pub fits-without : {c : TrackerConfig} {f : Frame} → Fits c f → (distances : List Float)
+    → Fits c (frame (f .period) (f .points) (f .scores) (f .hasScores) distances)
+fits-without fits distances =
+    record { sizes = fits .sizes; detections = fits .detections; points = fits .points; scores = fits .scores; period = fits .period }
+
+module _ {c : TrackerConfig} {f : Frame} (fits : Fits c f) {d : ℕ} (few : d < length (f .hasScores)) where
+  coords-inside : d * coords c + coords c ≤ length (f .points)
+  coords-inside = rw (fits .points) (block-fits (coords c) d (length (f .hasScores)) few)
+
+  marks-inside : d * c .points + c .points ≤ length (f .scores)
+  marks-inside = rw (fits .scores) (block-fits (c .points) d (length (f .hasScores)) few)
+
+  pub lent-points : length (lentDetection c f d .points) ≡ coords c
+  lent-points = long (f .points) (d * coords c) (coords c) coords-inside
+
+  pub lent-scores : length (lentDetection c f d .scores) ≡ c .points
+  lent-scores = long (f .scores) (d * c .points) (c .points) marks-inside
+
+-- ---- the three parts, by the layout that the code computed
+
+-- block k of the floats and detection d of the frame
+pub record Lending (c : TrackerConfig) (r : Layout) (f : Frame) (s : List Float) (k d : ℕ) : Type 0 where
+  pub layout : r ≡ layoutOf c
+  pub fits : Fits c f
+  pub few : d < length (f .hasScores)
+  pub room : k * blockSize c + blockSize c ≤ length s
+
+-- as the code cuts it out
+abbrev pub lentOn : TrackerConfig → Layout → Frame → ℕ → Detection
+lentOn c r f d =
+    detection
+    (take (d * r .coords + r .coords - d * r .coords) (drop (d * r .coords) (f .points)))
+    (take (d * c .points + c .points - d * c .points) (drop (d * c .points) (f .scores)))
+    (lentDetection c f d .hasScores)
+
+module _ {c : TrackerConfig} {r : Layout} {f : Frame} {s : List Float} {k d : ℕ} (lends : Lending c r f s k d) where
+  pub block-inside : k * r .size + r .size ≤ length s
+  block-inside = rw (lends .layout) (lends .room)
+
+  pub points-inside : d * r .coords + r .coords ≤ length (f .points)
+  points-inside = rw (lends .layout) (coords-inside (lends .fits) (lends .few))
+
+  pub scores-inside : d * c .points + c .points ≤ length (f .scores)
+  scores-inside = marks-inside (lends .fits) (lends .few)
+
+  pub block-long : length (take (k * r .size + r .size - k * r .size) (drop (k * r .size) s)) ≡ blockSize c
+  block-long = part-long s (k * r .size) (r .size) block-inside ∙ ap (λ (x : Layout). x .size) (lends .layout)
+
+  pub points-long : length (take (d * r .coords + r .coords - d * r .coords) (drop (d * r .coords) (f .points))) ≡ coords c
+  points-long = part-long (f .points) (d * r .coords) (r .coords) points-inside ∙ ap (λ (x : Layout). x .coords) (lends .layout)
+
+  pub scores-long : length (take (d * c .points + c .points - d * c .points) (drop (d * c .points) (f .scores))) ≡ c .points
+  scores-long = part-long (f .scores) (d * c .points) (c .points) scores-inside
+
+  -- the detection that is lent on is detection d
+  same-detection : lentOn c r f d ≡ lentDetection c f d
+  same-detection =
+      rw (part-same (f .points) (d * r .coords) (r .coords), part-same (f .scores) (d * c .points) (c .points), lends .layout)
+
+  pub by-detection : {B : Type 0} (g : Detection → B) {b : B} → b ≡ g (lentOn c r f d) → b ≡ g (lentDetection c f d)
+  by-detection g same = same ∙ ap g same-detection
+
+  -- what became of the block, back among the floats
+  pub block-back : (g : Detection → List Float → List Float) {ys : List Float}
+      → length ys ≡ length (take (k * r .size + r .size - k * r .size) (drop (k * r .size) s))
+      → ys ≡ g (lentOn c r f d) (take (k * r .size + r .size - k * r .size) (drop (k * r .size) s))
+      → take (k * r .size) s ++ (ys ++ drop (k * r .size + r .size - k * r .size) (drop (k * r .size) s))
+      ≡ paste s (k * blockSize c) (g (lentDetection c f d) (take (blockSize c) (drop (k * blockSize c) s))) (blockSize c)
+  block-back g {ys = ys} long same =
+      let size = ap (λ (x : Layout). x .size) (lends .layout) in
+      part-back s (k * r .size) (r .size) ys (long ∙ block-long ∙ sym size)
+      ∙ rw (same, same-detection, part-same s (k * r .size) (r .size), lends .layout)

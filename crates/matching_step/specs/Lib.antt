@@ -1,0 +1,3 @@
+-- Step 2: match, hit, open; and its account.
+pub mod Step
+pub mod Account

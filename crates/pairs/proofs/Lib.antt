@@ -1,0 +1,3 @@
+-- Rule 47: the pair list. What the proofs by hand share.
+pub mod Again
+pub mod Walk

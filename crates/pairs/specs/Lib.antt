@@ -1,0 +1,2 @@
+-- Rule 47: the pair list, as the contracts state it.
+pub mod Blank
