@@ -1,4 +1,5 @@
 // Rule 80: frames run through the public calls: a fish hit each frame, and a coarse run beside a fine one on the same fish.
+ghost use Prim.Native.Nat.{_<_, _≤_};
 use filter::FilterSettings;
 use libc::STDOUT_FILENO;
 use pairs::Pair;
@@ -59,13 +60,9 @@ fn distance(a: f64, b: f64) -> f64 {
 }
 
 // The distances of a fish to the first n records, behind those that stand there.
-fn measured(
-    mut distances: [f64; 32],
-    start: usize,
-    x: f64,
-    storage: &[f64],
-    n: usize,
-) -> [f64; 32] {
+fn measured(mut distances: [f64; 32], start: usize, x: f64, storage: &[f64], n: usize) -> [f64; 32]
+    requires { ⌜ start ≤ 24 ⌝ }
+{
     let mut k = 0;
     while k < 8 {
         let at = start + k;
@@ -129,21 +126,23 @@ pub fn seventh_hit() {
         STDOUT_FILENO,
         b"delay 7, maximum 15, period 1, hit each frame: total",
     );
-    let mut hits = 0;
+    let mut hits = 0u64;
     while hits < 9 {
         t = frame(t, &mut storage, 1, [0.0; 3], 1);
         let total = tracker::total_object_count(t);
         io::write_all(STDOUT_FILENO, b" ");
         io::print_decimal(STDOUT_FILENO, total.count as u64);
         io::write_all(STDOUT_FILENO, b" after ");
-        io::print_decimal(STDOUT_FILENO, hits as u64);
+        io::print_decimal(STDOUT_FILENO, hits);
         hits += 1;
     }
     io::write_all(STDOUT_FILENO, b" hits\n");
 }
 
 // Three fish, seen at ticks 0 to 11, 3 to 6 and 6 to 11; a frame each period.
-fn run(period: u32) {
+fn run(period: u32)
+    requires { ⌜ 0 < period ⌝ }
+{
     let mut storage = [0.0; 64];
     let mut t = tracker::new(settings(), &storage).table;
     let mut tick = 0;

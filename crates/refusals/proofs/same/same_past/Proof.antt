@@ -1,8 +1,8 @@
--- `refusals::same_past` is safe and ends.
+-- `refusals::same::same_past` is safe and ends.
 use Prim.Native.Nat.{_-_}
 use borrow.Author.Needs.{needs}
-use Rattle.refusals.proofs.same_past.Statement.{statement}
-use Rattle.refusals.proofs.same_past.Tie as tie
+use Rattle.refusals.proofs.same.same_past.Statement.{statement}
+use Rattle.refusals.proofs.same.same_past.Tie as tie
 
 abbrev Inv-loop : tie.InvT-loop
 Inv-loop a b i₀ i = Unit {0}

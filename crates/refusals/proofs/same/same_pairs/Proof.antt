@@ -1,14 +1,14 @@
--- `refusals::same_records` is safe and ends.
+-- `refusals::same::same_pairs` is safe and ends: it counts to 40, the length of both lists.
 use Prim.Native.Nat.{_-_}
 use borrow.Author.Needs.{needs}
-use Rattle.refusals.proofs.same_records.Statement.{statement}
-use Rattle.refusals.proofs.same_records.Tie as tie
+use Rattle.refusals.proofs.same.same_pairs.Statement.{statement}
+use Rattle.refusals.proofs.same.same_pairs.Tie as tie
 
 abbrev Inv-loop : tie.InvT-loop
 Inv-loop a b i₀ i = Unit {0}
 
 abbrev μ-loop : tie.MeasureT-loop
-μ-loop a b i₀ i = 64 - i
+μ-loop a b i₀ i = 40 - i
 
 loop-holds : tie.Need-loop-holds Inv-loop μ-loop
 loop-holds c = search needs
@@ -25,8 +25,8 @@ mul-y c = search needs
 array-copy-out-y : tie.Need-array-copy-out-y Inv-loop μ-loop
 array-copy-out-y c = search needs
 
-same-object-requires : tie.Need-same-object-requires Inv-loop μ-loop
-same-object-requires c κs = search needs
+same-pair-requires : tie.Need-same-pair-requires Inv-loop μ-loop
+same-pair-requires c κs = search needs
 
 returns : tie.Need-returns Inv-loop μ-loop
 returns c = search needs
@@ -43,8 +43,8 @@ loop-again c = search needs
 returns-2 : tie.Need-returns-2 Inv-loop μ-loop
 returns-2 c = search needs
 
-pub same-records-spec : {M : Type 1} → statement M
-same-records-spec =
+pub same-pairs-spec : {M : Type 1} → statement M
+same-pairs-spec =
     tie.close
     (tie.spec
     Inv-loop
@@ -54,7 +54,7 @@ same-records-spec =
     array-copy-out-x
     mul-y
     array-copy-out-y
-    same-object-requires
+    same-pair-requires
     returns
     add-i
     loop-less

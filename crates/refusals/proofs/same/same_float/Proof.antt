@@ -1,11 +1,11 @@
--- `refusals::same_float` is safe and ends: a float that equals itself is no NaN, and has its bits.
+-- `refusals::same::same_float` is safe and ends: a float that equals itself is no NaN, and has its bits.
 use mathlib.Core.Path.{_≡_}
 use mathlib.Core.Bool.{false, not, true≢false}
 use lib.Dec.{T}
 use lib.Ieee.{Float, nan, inf, fin, ne, isNan}
 use borrow.Author.Needs.{needs}
-use Rattle.refusals.proofs.same_float.Statement.{statement}
-use Rattle.refusals.proofs.same_float.Tie as tie
+use Rattle.refusals.proofs.same.same_float.Statement.{statement}
+use Rattle.refusals.proofs.same.same_float.Tie as tie
 
 number : (x : Float) → ne x x ≡ false → T (not (isNan x))
 unfolding ne isNan

@@ -1,9 +1,9 @@
--- `refusals::same_floats` is safe and ends.
+-- `refusals::same::same_floats` is safe and ends.
 use Prim.Native.Nat.{_-_}
 use lib.ListN.{length}
 use borrow.Author.Needs.{needs}
-use Rattle.refusals.proofs.same_floats.Statement.{statement}
-use Rattle.refusals.proofs.same_floats.Tie as tie
+use Rattle.refusals.proofs.same.same_floats.Statement.{statement}
+use Rattle.refusals.proofs.same.same_floats.Tie as tie
 
 abbrev Inv-loop : tie.InvT-loop
 Inv-loop a b i₀ i = Unit {0}

@@ -1,8 +1,8 @@
--- `refusals::same_numbers` is safe and ends.
+-- `refusals::same::same_numbers` is safe and ends.
 use Prim.Native.Nat.{_-_}
 use borrow.Author.Needs.{needs}
-use Rattle.refusals.proofs.same_numbers.Statement.{statement}
-use Rattle.refusals.proofs.same_numbers.Tie as tie
+use Rattle.refusals.proofs.same.same_numbers.Statement.{statement}
+use Rattle.refusals.proofs.same.same_numbers.Tie as tie
 
 abbrev Inv-loop : tie.InvT-loop
 Inv-loop x y i₀ i = Unit {0}
