@@ -1,3 +1,2 @@
 -- The laws of a filter's block, and its the marked examples.
 pub mod Block
-pub mod Marked

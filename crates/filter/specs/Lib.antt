@@ -3,4 +3,3 @@ pub mod Settings
 pub mod Coordinate
 pub mod Mask
 pub mod Block
-pub mod Marked

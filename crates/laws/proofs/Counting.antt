@@ -1,7 +1,7 @@
--- How often a number stands in a list: in two lists, in what a test keeps, below a count; and a list without repetition is short.
-use mathlib.Core.Path.{_≡_, refl, sym, _∙_}
+-- How often a number stands in a list, and whether it does: in two lists, in what a test keeps, below a count; and a list without repetition is short.
+use mathlib.Core.Path.{_≡_, refl, sym, _∙_, ap}
 use mathlib.Core.Logic.{⊎-elim}
-use mathlib.Core.Bool.{Bool, true, false, not, _||_, cond}
+use mathlib.Core.Bool.{Bool, true, false, not, _&&_, _||_, cond}
 use mathlib.Core.List.{List, [], _∷_, _++_}
 use Prim.Native.Nat.{ℕ, zero, suc, _+_, _<_, _≤_, zero-le}
 use native.Mathlib.Nat.{le-refl, eq-or-lt-of-le}
@@ -89,6 +89,25 @@ module _ (x : ℕ) where
   -- and one that does
   pub held : (l : List ℕ) → holds x l ≡ true → 0 < times x l
   held l h = ltb-true 0 (times x l) (sym (holds-times l) ∙ h)
+
+-- ---- which numbers below a count a test keeps: each that passes, once
+
+in-both : (a b : Bool) → _≡_ {A = ℕ} (cond b (cond a 1 0) 0) (cond (a && b) 1 0)
+in-both true true = refl
+in-both true false = refl
+in-both false true = refl
+in-both false false = refl
+
+above-zero : (b : Bool) → ltb 0 (cond b 1 0) ≡ b
+above-zero true = refl
+above-zero false = refl
+
+module _ (p : ℕ → Bool) (x n : ℕ) where
+  pub times-kept : times x (keep p (below n)) ≡ cond (ltb x n && p x) 1 0
+  times-kept = times-keep x p (below n) ∙ rw (times-below x n) (in-both (ltb x n) (p x))
+
+  pub holds-kept : holds x (keep p (below n)) ≡ (ltb x n && p x)
+  holds-kept = holds-times x (keep p (below n)) ∙ ap (ltb 0) times-kept ∙ above-zero (ltb x n && p x)
 
 -- ---- a list without repetition is at most as long as the numbers that can stand in it are many
 

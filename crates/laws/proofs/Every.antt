@@ -1,4 +1,4 @@
--- A fact of every element of a list: of two lists, of one replaced, of those that a test keeps, of the numbers below a count.
+-- A fact of every element of a list: of two lists, of one replaced, of those that a test keeps, of what is read off them, of the numbers below a count.
 use mathlib.Core.Path.{_≡_, refl}
 use mathlib.Core.Bool.{Bool, true, false, cond}
 use mathlib.Core.List.{List, [], _∷_, _++_, map}
@@ -6,7 +6,8 @@ use Prim.Native.Nat.{ℕ, zero, suc, _<_}
 use native.Mathlib.Nat.{le-of-suc-le-suc}
 use native.Mathlib.Omega.{arith}
 use lib.ListN.{length, getD, set}
-use Rattle.laws.specs.Lists.{below, keep}
+use Rattle.laws.specs.Lists.{below, keep, padded, EachBelow}
+use Rattle.laws.proofs.Growing.{filled-at}
 
 pub data Every {A : Type 0} (P : A → Type 0) : List A → Type 0 where
   none : Every P []
@@ -47,7 +48,31 @@ module _ {A : Type 0} {P : A → Type 0} where
   every-keep q none = none
   every-keep q (one {x} {l} p r) = kept x (keep q l) (q x) p (every-keep q r)
 
-pub every-below : (n : ℕ) → Every (λ i. i < n) (below n)
+pub every-map : {A B : Type 0} {P : B → Type 0} (f : A → B) {l : List A} → Every (λ x. P (f x)) l → Every P (map f l)
+every-map f none = none
+every-map f (one p r) = one p (every-map f r)
+
+pub every-unmap : {A B : Type 0} {P : B → Type 0} (f : A → B) (l : List A) → Every P (map f l) → Every (λ x. P (f x)) l
+every-unmap f [] none = none
+every-unmap f (x ∷ l) (one p r) = one p (every-unmap f l r)
+
+pub every-and : {A : Type 0} {P Q : A → Type 0} {l : List A} → Every P l → Every Q l → Every (λ x. P x × Q x) l
+every-and none none = none
+every-and (one p r) (one q s) = one (p, q) (every-and r s)
+
+-- tests that agree on every element keep the same
+pub keep-every : {A : Type 0} (p q : A → Bool) {l : List A} → Every (λ x. p x ≡ q x) l → keep p l ≡ keep q l
+unfolding keep
+keep-every p q none = refl
+keep-every p q (one e r) = rw (e, keep-every p q r)
+
+pub every-below : {P : ℕ → Type 0} (n : ℕ) → ((i : ℕ) → i < n → P i) → Every P (below n)
 unfolding below
-every-below zero = none
-every-below (suc n) = every-append (every-weaker (λ i h. omega arith) (every-below n)) (one (omega arith) none)
+every-below zero each = none
+every-below (suc n) each = every-append (every-below n (λ i h. each i (omega arith))) (one (each n (omega arith)) none)
+
+-- in an array
+pub each-padded : {limit count : ℕ} (n : ℕ) (l : List ℕ) → length l ≡ count → Every (λ x. x < limit) l → EachBelow limit count (padded n l)
+each-padded n l e all i h =
+    let inside : i < length l = omega arith in
+    rw (filled-at n 0 l i 0 inside) (every-at i 0 all inside)

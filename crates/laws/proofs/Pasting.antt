@@ -1,4 +1,4 @@
--- A copy into a list, the kit's `paste`: what it leaves, what it makes, one copy behind another, and a copy from further up the same list.
+-- A copy into a list, the kit's `paste`: what it leaves, what it makes, one copy behind another, a copy from further up the same list, and a part lent and put back.
 use mathlib.Core.Path.{_≡_, sym, _∙_, ap}
 use mathlib.Core.List.{List, [], _∷_, _++_, append-assoc}
 use Prim.Native.Nat.{ℕ, suc, _+_, _-_, _<_, _≤_}
@@ -6,7 +6,7 @@ use native.Mathlib.Nat.{zero-add, add-zero, add-assoc}
 use native.Mathlib.Numerals.{add-one}
 use native.Mathlib.Omega.{arith}
 use lib.ListN.{length, getD, set, take, drop, length-drop}
-use lib.Seq.{paste, paste-suc, set-split, append-snoc, take-paste, drop-paste, length-paste-head, length-take-le, take-append-le, take-append-add, take-length, take-take, take-add, take-at, drop-at, drop-drop, getD-drop}
+use lib.Seq.{paste, paste-suc, set-split, append-snoc, take-paste, drop-paste, length-paste-head, length-take-le, take-append-le, take-append-add, take-length, take-all, take-take, take-add, take-at, drop-at, drop-drop, getD-drop}
 
 module _ {A : Type 0} (d : List A) (at : ℕ) (s : List A) (n k : ℕ) where
   -- what lies in front stays
@@ -62,3 +62,22 @@ module _ {A : Type 0} where
       let e = length-drop from d in
       rw (to, of, getD-behind d at (drop from d) j (from + j) z (omega arith) (omega arith) (omega arith), ← getD-drop from d j z)
       (paste-suc d at (drop from d) j z (omega arith) (omega arith))
+
+-- ---- n elements from a place on, as a lent part is cut out
+
+module _ {A : Type 0} (l : List A) (at n : ℕ) where
+  part : at + n - at ≡ n
+  part = omega arith
+
+  pub part-same : take (at + n - at) (drop at l) ≡ take n (drop at l)
+  part-same = rw part
+
+  pub length-part : at + n ≤ length l → length (take n (drop at l)) ≡ n
+  length-part h = length-take-le n (drop at l) (omega (arith, length-drop at l))
+
+  pub part-long : at + n ≤ length l → length (take (at + n - at) (drop at l)) ≡ n
+  part-long h = rw part (length-part h)
+
+  -- as many put back
+  pub part-back : (ys : List A) → length ys ≡ n → take at l ++ (ys ++ drop (at + n - at) (drop at l)) ≡ paste l at ys n
+  part-back ys e = rw (part, drop-drop n at l, take-all n ys (omega arith)) (sym (append-assoc (take at l) ys (drop (at + n) l)))

@@ -1,6 +1,6 @@
--- What a list weighs, what the elements that pass a test weigh, and runs of numbers one after another.
+-- What a list weighs, what the elements that pass a test weigh and those that do not, and runs of numbers one after another.
 use mathlib.Core.Path.{_≡_, refl, ap}
-use mathlib.Core.Bool.{Bool, true, false, cond}
+use mathlib.Core.Bool.{Bool, true, false, not, cond}
 use mathlib.Core.List.{List, [], _∷_, _++_, map}
 use Prim.Native.Nat.{ℕ, zero, suc, _+_}
 use native.Mathlib.Omega.{arith}
@@ -34,7 +34,7 @@ module _ {A : Type 0} (w : ℕ → ℕ) (f : A → ℕ) (p : A → Bool) where
   abbrev pub part : A → ℕ
   part x = cond (p x) (w (f x)) 0
 
-  load-cons : (x : A) (l : List A) → load (x ∷ l) ≡ part x + load l
+  pub load-cons : (x : A) (l : List A) → load (x ∷ l) ≡ part x + load l
   unfolding keep weight
   load-cons x l = go (p x) (keep p l)
     where
@@ -52,6 +52,19 @@ module _ {A : Type 0} (w : ℕ → ℕ) (f : A → ℕ) (p : A → Bool) where
   load-set [] i y d m e z = omega arith
   load-set (x ∷ l) zero y d m e z = omega (arith, load-cons x l, load-cons y l)
   load-set (x ∷ l) (suc i) y d m e z = omega (arith, load-cons x l, load-cons x (set l i y), load-set l i y d m e z)
+
+-- ---- of any sum over what is read off a list, those that pass a test and those that do not make up all of it
+
+module _ {B : Type 0} (share : B → ℕ) (sum : List B → ℕ) (nothing : sum [] ≡ 0) (more : (x : B) (l : List B) → sum (x ∷ l) ≡ share x + sum l) where
+  pub parted : {A : Type 0} (g : A → B) (p : A → Bool) (l : List A) → sum (map g l) ≡ sum (map g (keep (λ x. not (p x)) l)) + sum (map g (keep p l))
+  unfolding keep
+  parted g p [] = omega (arith, nothing)
+  parted {A} g p (x ∷ l) = go (p x) (keep (λ y. not (p y)) l) (keep p l) (parted g p l)
+    where
+      go : (b : Bool) (stay leave : List A) → sum (map g l) ≡ sum (map g stay) + sum (map g leave)
+          → sum (map g (x ∷ l)) ≡ sum (map g (cond (not b) (x ∷ stay) stay)) + sum (map g (cond b (x ∷ leave) leave))
+      go true stay leave e = omega (arith, more (g x) (map g l), more (g x) (map g leave))
+      go false stay leave e = omega (arith, more (g x) (map g l), more (g x) (map g stay))
 
 -- ---- numbers one after another: from the first up to the one that is next
 

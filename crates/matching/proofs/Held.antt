@@ -4,10 +4,9 @@ use mathlib.Core.Bool.{Bool, true}
 use mathlib.Core.List.{List, [], _∷_, _++_, map, append-assoc, append-nil, map-append}
 use Prim.Native.Nat.{ℕ, zero, suc, _+_, _-_, _<_, _≤_}
 use native.Mathlib.Omega.{arith}
-use native.Mathlib.Numerals.{add-one}
 use lib.ListN.{length, set, replicate, length-map}
 use Rattle.laws.specs.Lists.{padded}
-use Rattle.laws.proofs.Growing.{length-snoc, filled-snoc}
+use Rattle.laws.proofs.Growing.{length-snoc, filled-next}
 use Rattle.matching.specs.declared.Picks.{Picks}
 use Rattle.matching.specs.declared.Place.the-variants.{At, Nothing}
 use Rattle.matching.specs.Greedy.{Matrix, Pick, rowsOf, colsOf, nextPick, greedy, picks}
@@ -37,10 +36,7 @@ pub record Held (m : Matrix) (ur₀ uc₀ : List Bool) (n : ℕ) (ur uc : List B
 -- one number more behind those of the picks done, by row or by column
 snoc : (f : Pick → ℕ) (l : List Pick) (p : Pick) (n : ℕ) (xs : List ℕ) → n ≡ length l → n < 32 → xs ≡ padded 32 (map f l)
     → set xs n (f p) ≡ padded 32 (map f (l ++ (p ∷ [])))
-snoc f l p n xs c h e =
-    let long : length (map f l) ≡ n = length-map l f ∙ sym c in
-    rw (map-append f l (p ∷ []), e)
-    (ap (λ (k : ℕ). set (padded 32 (map f l)) k (f p)) (sym long) ∙ filled-snoc 32 0 (map f l) (f p) (omega arith))
+snoc f l p n xs c h e = rw (map-append f l (p ∷ []), e) (filled-next 32 0 (map f l) (f p) (length-map l f ∙ sym c) h)
 
 module _ (m : Matrix) (ur₀ uc₀ : List Bool) where
   pub held-first : Held m ur₀ uc₀ 0 ur₀ uc₀ (replicate 32 0) (replicate 32 0)

@@ -2,4 +2,3 @@
 pub mod Greedy
 pub mod Lent
 pub mod Unmatched
-pub mod Marked

@@ -5,7 +5,7 @@ use mathlib.Core.List.{List, [], _∷_, _++_, map, map-append, map-map, append-n
 use Prim.Native.Nat.{ℕ, _+_, _≤_}
 use native.Mathlib.Omega.{arith}
 use lib.Ieee.{Float}
-use lib.ListN.{length, getD, take, drop, length-append, length-map}
+use lib.ListN.{length, getD, drop, length-append, length-map}
 use lib.Seq.{take-at, map-set-same}
 use lib.Signed.{ltZ}
 use Rattle.laws.specs.Lists.{keep, weight, upFrom}
@@ -13,14 +13,13 @@ use Rattle.laws.specs.Turns.{through}
 use Rattle.matching.specs.Greedy.{Pick}
 use Rattle.parts.specs.declared.Life.{Life}
 use Rattle.parts.specs.declared.Origin.{Origin}
-use Rattle.parts.specs.declared.TrackedObject.{TrackedObject}
 use Rattle.parts.specs.declared.TrackerConfig.{TrackerConfig}
 use Rattle.parts.specs.Layout.{blockSize}
 use Rattle.parts.specs.Life.{isZero, raised, lifeHit, lifeOpened}
 use Rattle.tracked_object.specs.Object.{objectHit, objectOpened}
 use Rattle.tracked_object.proofs.ObjectLaws.{origin-hit}
 use Rattle.table.specs.declared.Table.{Table}
-use Rattle.table.specs.Slots.{Slot, noSlot, objectsOf, tableSlots, nameOf, names, tableNames}
+use Rattle.table.specs.Slots.{Slot, noSlot, objectsOf, tableSlots, nameOf, names, tableObjects, tableNames, tableInitializing}
 use Rattle.table.proofs.SlotLaws.{objects-length, slots-length, slots-objects}
 use Rattle.passes.specs.Checks.{Frame}
 use Rattle.matching_step.specs.Step.{State, lentDetection, distanceOf, nextPermanent, issuing, takesId, hitOne, openOne, firstHits, secondHits, toOpen, start, hitAll, openAll, afterFirst, afterSecond, afterOpening, matchTable}
@@ -49,15 +48,8 @@ issuedNumbers l = map (λ i. i .number) l
 abbrev pub issuedNames : List Issue → List ℕ
 issuedNames l = map (λ i. i .name) l
 
--- who is in a table, and who of them is initializing
-abbrev pub tableObjects : Table → List TrackedObject
-tableObjects t = take (t .counts .records) (t .records)
-
 abbrev pub tableGlobals : Table → List ℕ
 tableGlobals t = map (λ o. o .origin .«global_id») (tableObjects t)
-
-abbrev pub tableInitializing : Table → List ℕ
-tableInitializing t = map nameOf (keep (λ o. o .life .«is_initializing») (tableObjects t))
 
 -- ---- hits change nobody's origin: what is read off it stays
 

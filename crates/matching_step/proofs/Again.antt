@@ -1,11 +1,12 @@
 -- Rules 43 to 46: what a pass put back is found again by the next part, as if the step had gone on from its state.
 use mathlib.Core.Path.{_≡_, sym, _∙_}
 use mathlib.Core.List.{List}
-use Prim.Native.Nat.{ℕ, _<_, _≤_}
+use Prim.Native.Nat.{ℕ, _<_}
 use native.Mathlib.Omega.{arith}
 use lib.Ieee.{Float}
 use lib.ListN.{length}
 use Rattle.laws.specs.Turns.{through}
+use Rattle.laws.proofs.Every.{every-at}
 use Rattle.matching.specs.Greedy.{Pick}
 use Rattle.parts.specs.declared.TrackerConfig.{TrackerConfig}
 use Rattle.parts.specs.declared.TrackedObject.{TrackedObject}
@@ -13,7 +14,6 @@ use Rattle.parts.specs.Layout.{blockSize}
 use Rattle.table.specs.declared.Counts.{Counts}
 use Rattle.table.specs.Making.{zeroObject}
 use Rattle.table.specs.Slots.{noSlot, floatsBack}
-use Rattle.table.proofs.Ranged.{ranged-at}
 use Rattle.table.proofs.SlotLaws.{records-at}
 use Rattle.passes.specs.Checks.{Frame}
 use Rattle.matching_step.specs.declared.Stepped.{Stepped}
@@ -41,7 +41,7 @@ module _ {c : TrackerConfig} {n : ℕ} {st : State} (stands : Standing c n st) {
             rw (counted-again, put .records)
             (λ i h.
             let listed : i < length (st .slots) = rw (stands .long) h in
-            rw (records-at (st .slots) records i zeroObject noSlot listed) (ranged-at i noSlot (stands .ranged) listed));
+            rw (records-at (st .slots) records i zeroObject noSlot listed) (every-at i noSlot (stands .ranged) listed));
       }
 
   -- the hits of the second pass

@@ -1,17 +1,18 @@
 -- Rules 43 to 46: the parts of step 2 one after another, on a table that passed its checks: what each leans on, and what it leaves.
 use mathlib.Core.Path.{_≡_, refl, _∙_}
 use mathlib.Core.List.{List, []}
-use Prim.Native.Nat.{ℕ, _+_, _*_, _<_, _≤_}
+use Prim.Native.Nat.{ℕ, _+_, _<_, _≤_}
 use native.Mathlib.Omega.{arith}
 use lib.Ieee.{Float}
-use lib.ListN.{length, getD, replicate, List·getD-append}
+use lib.ListN.{length}
 use Rattle.laws.specs.Lists.{EachBelow}
 use Rattle.laws.specs.Turns.{through}
-use Rattle.laws.proofs.Every.{Every, every-at, every-keep, every-below}
+use Rattle.laws.proofs.Every.{Every, every-at, every-keep, every-below, each-padded}
 use Rattle.laws.proofs.Through.{through-keep}
 use Rattle.matching.specs.Greedy.{Pick}
 use Rattle.matching.specs.Lent.{picksOf, picked}
 use Rattle.matching.specs.Unmatched.{numbersOf}
+use Rattle.matching.proofs.Picked.{Inside, picks-inside, picked-cols, picked-of}
 use Rattle.parts.specs.declared.TrackedObject.{TrackedObject}
 use Rattle.parts.specs.Layout.{blockSize}
 use Rattle.table.specs.declared.Counts.{Counts}
@@ -21,7 +22,7 @@ use Rattle.table.specs.declared.Table.{Table}
 use Rattle.table.specs.Slots.{floatsBack}
 use Rattle.passes.specs.Checks.{Frame, frame}
 use Rattle.passes.specs.Passes.{numbers}
-use Rattle.passes.proofs.PassLaws.{first-passed, second-passed, rows-inside, cols-inside, numbers-of, picked-cols}
+use Rattle.passes.proofs.PassLaws.{first-passed, second-passed, rows-inside, cols-inside, numbers-of}
 use Rattle.matching_step.specs.declared.Decided.{Decided}
 use Rattle.matching_step.specs.declared.Stepped.{Stepped}
 use Rattle.matching_step.specs.Step.{State, matrixOf, firstHits, secondHits, toOpen, hitOne, openOne, start, afterFirst, afterSecond, afterOpening, matchTable, listsAfter, decidedOf, steppedOf, Ready}
@@ -29,7 +30,6 @@ use Rattle.matching_step.proofs.Again.{all-counted, hits-again}
 use Rattle.matching_step.proofs.Deciding.{few-hits}
 use Rattle.matching_step.proofs.Hitting.{Standing, stands-first, hits-stand, hits-permanent}
 use Rattle.matching_step.proofs.Opening.{opens-length, opens-sized, opens-again}
-use Rattle.matching_step.proofs.Picked.{Inside, picks-inside, picked-of}
 use Rattle.matching_step.proofs.PutBack.{found, Put, put-back, put-long}
 
 module _ (t : Table) (n : ℕ) (f : Frame) where
@@ -53,14 +53,13 @@ module _ (t : Table) (n : ℕ) (f : Frame) where
 
   left-every : Every (λ i. i < n) (toOpen t n f)
   unfolding toOpen
-  left-every = every-keep _ (every-keep _ (every-below n))
+  left-every = every-keep _ (every-keep _ (every-below n (λ i h. h)))
 
   pub left-below : EachBelow n (numbersOf (toOpen t n f) .count) (numbersOf (toOpen t n f) .at)
-  left-below i h =
-      rw (List·getD-append (toOpen t n f) _ 0 i h) (every-at i 0 left-every h)
+  left-below = each-padded 64 (toOpen t n f) refl left-every
 
   listed : (l : List Pick) → EachBelow n (picksOf l .count) (picksOf l .rows) → EachBelow (t .counts .records) (picksOf l .count) (picksOf l .cols)
-      → Inside n (t .counts .records) l
+      → Every (Inside n (t .counts .records)) l
   listed l rows cols = rw (picked-of l) at (picks-inside (picksOf l) rows cols (length l) (omega arith))
 
 -- ---- the step on a table that passed its checks
@@ -72,7 +71,7 @@ module _ (t : Table) (s : List Float) (f : Frame) (ready : Ready t (length s) (l
   abbrev hits : List Pick → State → State
   hits l st = through (hitOne (t .config) f (t .counts .records)) l st
 
-  stays : {l : List Pick} {st : State} → Inside n (t .counts .records) l → Standing (t .config) (t .counts .records) st
+  stays : {l : List Pick} {st : State} → Every (Inside n (t .counts .records)) l → Standing (t .config) (t .counts .records) st
       → Standing (t .config) (t .counts .records) (hits l st)
   stays inside stands = hits-stand (ready .fits) (ready .holding .from) (ready .holding .most) inside stands
 

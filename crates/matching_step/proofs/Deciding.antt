@@ -1,18 +1,18 @@
 -- Rules 43 and 44: what both passes and the search for leftovers return is what the definition decides; and its bounds.
-use mathlib.Core.Path.{_≡_, refl, _∙_}
-use Prim.Native.Nat.{ℕ, _+_, _<_, _≤_}
+use mathlib.Core.Path.{_≡_, _∙_}
+use Prim.Native.Nat.{ℕ, _+_, _≤_}
 use native.Mathlib.Omega.{arith}
 use lib.ListN.{length}
-use Rattle.laws.specs.Lists.{EachBelow, filled}
+use Rattle.laws.specs.Lists.{EachBelow}
 use Rattle.matching.specs.declared.Numbers.{Numbers}
 use Rattle.matching.specs.declared.Picks.{Picks}
-use Rattle.matching.specs.Greedy.{rowsOf}
 use Rattle.matching.specs.Lent.{picksOf}
 use Rattle.matching.specs.Unmatched.{numbersOf}
+use Rattle.matching.proofs.Picked.{picked-rows}
 use Rattle.table.specs.declared.Table.{Table}
 use Rattle.passes.specs.Checks.{Frame}
 use Rattle.passes.specs.Passes.{numbers, pickedRows, firstPass, secondPass, leftOver}
-use Rattle.passes.proofs.PassLaws.{picked-rows, hits-few, first-passed, second-passed, rows-within}
+use Rattle.passes.proofs.PassLaws.{hits-few, first-passed, rows-within}
 use Rattle.matching_step.specs.declared.Decided.{Decided}
 use Rattle.matching_step.specs.Step.{matrixOf, firstHits, secondHits, toOpen, decidedOf}
 

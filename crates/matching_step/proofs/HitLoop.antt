@@ -1,5 +1,5 @@
 -- Rule 45: the loop of `hit_each`: at turn i the first i picks are hit, and their slots put back.
-use mathlib.Core.Path.{_≡_, refl, sym, _∙_}
+use mathlib.Core.Path.{_≡_, refl, _∙_}
 use mathlib.Core.List.{List}
 use Prim.Native.Nat.{ℕ, _+_, _*_, _<_, _≤_}
 use native.Mathlib.Nat.{le-trans}
@@ -7,10 +7,11 @@ use native.Mathlib.Omega.{arith}
 use lib.Ieee.{Float}
 use lib.ListN.{length, getD, set, take, drop, length-map}
 use lib.Seq.{paste}
-use Rattle.laws.specs.Lists.{below}
+use Rattle.laws.specs.Lists.{below, EachBelow}
 use Rattle.laws.specs.Turns.{through}
 use Rattle.laws.proofs.Growing.{length-below}
 use Rattle.matching.specs.declared.Picks.{Picks}
+use Rattle.matching.proofs.Picked.{pickAt, firstPicks, picks-next, picks-inside}
 use Rattle.parts.specs.declared.TrackerConfig.{TrackerConfig}
 use Rattle.parts.specs.declared.TrackedObject.{TrackedObject}
 use Rattle.parts.specs.declared.Changed.{Changed}
@@ -22,11 +23,9 @@ use Rattle.table.specs.Making.{zeroObject}
 use Rattle.table.proofs.Reading.{blank, read}
 use Rattle.table.proofs.SlotLaws.{block-fits, records-length, floats-length}
 use Rattle.passes.specs.Checks.{Frame}
-use Rattle.laws.specs.Lists.{EachBelow}
 use Rattle.matching_step.specs.Step.{State, lentDetection, distanceOf, issuing, hitOne, Fits, Holds}
 use Rattle.matching_step.proofs.Hitting.{Standing, stands-first, hits-stand, hits-permanent, in-range, object-held, put-hit}
 use Rattle.matching_step.proofs.PutBack.{found, Put, put-found}
-use Rattle.matching_step.proofs.Picked.{pickAt, firstPicks, picks-next, picks-inside}
 
 abbrev pub passed : TrackerConfig → Frame → Picks → Counts → List TrackedObject → List Float → ℕ → State
 passed c f l m records s i = through (hitOne c f (m .records)) (firstPicks l i) (found c records s m)

@@ -1,5 +1,5 @@
 -- Rule 45: the hits of a pass: what each keeps of the slots and the counts, and what it makes of the records and floats.
-use mathlib.Core.Path.{_≡_, refl, sym, _∙_}
+use mathlib.Core.Path.{_≡_, sym, _∙_}
 use mathlib.Core.Bool.{Bool, true, false}
 use mathlib.Core.List.{List, [], _∷_}
 use Prim.Native.Nat.{ℕ, _+_, _*_, _<_, _≤_}
@@ -10,8 +10,10 @@ use lib.ListN.{length, getD, set, take, drop, length-set}
 use lib.Seq.{paste}
 use lib.Signed.{leZ}
 use Rattle.laws.specs.Turns.{through}
+use Rattle.laws.proofs.Every.{Every, none, one, every-at, every-set}
 use Rattle.laws.proofs.Through.{through-keep}
 use Rattle.matching.specs.Greedy.{Pick}
+use Rattle.matching.proofs.Picked.{Inside}
 use Rattle.parts.specs.declared.TrackerConfig.{TrackerConfig}
 use Rattle.parts.specs.declared.TrackedObject.{TrackedObject}
 use Rattle.parts.specs.declared.Changed.{Changed}
@@ -23,12 +25,11 @@ use Rattle.tracked_object.proofs.HitLaws.{hit-in-range}
 use Rattle.table.specs.declared.Counts.{Counts}
 use Rattle.table.specs.Making.{zeroObject}
 use Rattle.table.specs.Slots.{Slot, noSlot, slots}
-use Rattle.table.proofs.Ranged.{Ranged, ranged-slots, ranged-at, ranged-set}
-use Rattle.table.proofs.SlotLaws.{Sized, sized-at, sized-set, slots-length, slots-sized, records-at, records-swap, floats-at, floats-swap}
+use Rattle.table.proofs.Ranged.{Ranged, ranged-slots}
+use Rattle.table.proofs.SlotLaws.{Sized, slots-length, slots-sized, records-at, records-swap, floats-at, floats-swap}
 use Rattle.passes.specs.Checks.{Frame}
 use Rattle.matching_step.specs.Step.{State, lentDetection, distanceOf, nextPermanent, issuing, takesId, slotHit, hitOne, Fits, Holds}
 use Rattle.matching_step.proofs.Lending.{lent-points, lent-scores}
-use Rattle.matching_step.proofs.Picked.{Inside, none, one}
 use Rattle.matching_step.proofs.PutBack.{Put}
 
 -- ---- what is so at every turn
@@ -64,11 +65,11 @@ module _ {c : TrackerConfig} {f : Frame} (fits : Fits c f)
     listed = rw (stands .long) col
 
     pub in-range : ObjectInRange c (hitSlot .object)
-    in-range = ranged-at (p .col) noSlot (stands .ranged) listed
+    in-range = every-at (p .col) noSlot (stands .ranged) listed
 
     block-kept : length (next .block) ≡ blockSize c
     block-kept =
-        let whole = sized-at (p .col) noSlot (stands .sized) listed in
+        let whole = every-at (p .col) noSlot (stands .sized) listed in
         length-hit c (lentDetection c f (p .row)) (hitSlot .block) (lent-points fits row) (lent-scores fits row) whole (hitSlot .object .«past_count») (in-range .history)
         ∙ whole
 
@@ -76,10 +77,10 @@ module _ {c : TrackerConfig} {f : Frame} (fits : Fits c f)
     stands-hit =
         record {
           long = length-set (st .slots) (p .col) next ∙ stands .long;
-          sized = sized-set (p .col) next (stands .sized) block-kept;
+          sized = every-set (λ x h. h) (p .col) next noSlot (stands .sized) (λ h. block-kept);
           ranged =
-              ranged-set (p .col) next (stands .ranged)
-              (hit-in-range c (lentDetection c f (p .row)) (f .period) (distanceOf f n p) (st .counts .permanent) (hitSlot .object) from most (fits .sizes) in-range);
+              every-set (λ x h. h) (p .col) next noSlot (stands .ranged)
+              (hit-in-range c (lentDetection c f (p .row)) (f .period) (distanceOf f n p) (st .counts .permanent) (hitSlot .object) from most (fits .sizes));
           counted = stands .counted;
         }
 
@@ -105,17 +106,17 @@ module _ {c : TrackerConfig} {f : Frame} (fits : Fits c f)
 
   -- ---- a pass
 
-  pub hits-stand : {l : List Pick} {st : State} → Inside (length (f .hasScores)) n l → Standing c n st → Standing c n (through (hitOne c f n) l st)
+  pub hits-stand : {l : List Pick} {st : State} → Every (Inside (length (f .hasScores)) n) l → Standing c n st → Standing c n (through (hitOne c f n) l st)
   unfolding through
   hits-stand none stands = stands
-  hits-stand (one {p} row col rest) stands = hits-stand rest (stands-hit p stands row col)
+  hits-stand (one {x = p} h rest) stands = hits-stand rest (stands-hit p stands (h .0) (h .1))
 
 -- no hit adds or drops a slot
 pub hits-length : (c : TrackerConfig) (f : Frame) (n : ℕ) (l : List Pick) (st : State) → length (through (hitOne c f n) l st .slots) ≡ length (st .slots)
 hits-length c f n = through-keep (hitOne c f n) (λ st. length (st .slots)) (λ p st. length-set (st .slots) (p .col) _)
 
--- a hit takes at most one permanent ID
-next-most : (took : Bool) (k : ℕ) → nextPermanent took k ≤ k + 1
+-- a hit or an opening takes at most one permanent ID
+pub next-most : (took : Bool) (k : ℕ) → nextPermanent took k ≤ k + 1
 next-most true k = omega arith
 next-most false k = omega arith
 

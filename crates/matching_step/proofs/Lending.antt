@@ -1,11 +1,11 @@
 -- Rules 45 and 46: what hit_at and open_at lend on: a record's block, and a detection's coordinates and scores.
 use mathlib.Core.Path.{_≡_, sym, _∙_, ap}
-use mathlib.Core.List.{List, _++_, append-assoc}
+use mathlib.Core.List.{List, _++_}
 use Prim.Native.Nat.{ℕ, _+_, _-_, _*_, _<_, _≤_}
-use native.Mathlib.Omega.{arith}
 use lib.Ieee.{Float}
-use lib.ListN.{length, take, drop, length-drop}
-use lib.Seq.{paste, length-take-le, take-all, drop-drop}
+use lib.ListN.{length, take, drop}
+use lib.Seq.{paste}
+use Rattle.laws.proofs.Pasting.{part-same, length-part, part-long, part-back}
 use Rattle.parts.specs.declared.TrackerConfig.{TrackerConfig}
 use Rattle.parts.specs.declared.block.Layout.{Layout}
 use Rattle.parts.specs.Layout.{coords, blockSize, layoutOf}
@@ -13,26 +13,6 @@ use Rattle.tracked_object.specs.Object.{Detection, detection}
 use Rattle.table.proofs.SlotLaws.{block-fits}
 use Rattle.passes.specs.Checks.{Frame, frame}
 use Rattle.matching_step.specs.Step.{Fits, lentDetection}
-
--- ---- n elements from a place on
-
-module _ {A : Type 0} (l : List A) (at n : ℕ) where
-  part : at + n - at ≡ n
-  part = omega arith
-
-  pub part-same : take (at + n - at) (drop at l) ≡ take n (drop at l)
-  part-same = rw part
-
-  long : at + n ≤ length l → length (take n (drop at l)) ≡ n
-  long h = length-take-le n (drop at l) (omega (arith, length-drop at l))
-
-  pub part-long : at + n ≤ length l → length (take (at + n - at) (drop at l)) ≡ n
-  part-long h = rw part (long h)
-
-  -- as many put back
-  pub part-back : (ys : List A) → length ys ≡ n → take at l ++ (ys ++ drop (at + n - at) (drop at l)) ≡ paste l at ys n
-  part-back ys e =
-      rw (part, drop-drop n at l, take-all n ys (omega arith)) (sym (append-assoc (take at l) ys (drop (at + n) l)))
 
 -- ---- detection d of the frame
 
@@ -50,10 +30,10 @@ module _ {c : TrackerConfig} {f : Frame} (fits : Fits c f) {d : ℕ} (few : d < 
   marks-inside = rw (fits .scores) (block-fits (c .points) d (length (f .hasScores)) few)
 
   pub lent-points : length (lentDetection c f d .points) ≡ coords c
-  lent-points = long (f .points) (d * coords c) (coords c) coords-inside
+  lent-points = length-part (f .points) (d * coords c) (coords c) coords-inside
 
   pub lent-scores : length (lentDetection c f d .scores) ≡ c .points
-  lent-scores = long (f .scores) (d * c .points) (c .points) marks-inside
+  lent-scores = length-part (f .scores) (d * c .points) (c .points) marks-inside
 
 -- ---- the three parts, by the layout that the code computed
 

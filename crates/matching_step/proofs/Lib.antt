@@ -1,5 +1,4 @@
 -- Laws of step 2.
-pub mod Picked
 pub mod Pairing
 pub mod Deciding
 pub mod PutBack

@@ -1,6 +1,5 @@
 -- Rule 46: openings one after another: each puts a record with its block behind those of the table.
 use mathlib.Core.Path.{_≡_, refl, sym, _∙_}
-use mathlib.Core.Bool.{Bool, true, false}
 use mathlib.Core.List.{List, [], _∷_}
 use Prim.Native.Nat.{ℕ, suc, _+_, _*_, _<_, _≤_}
 use native.Mathlib.Nat.{mul-le-mul-right, le-trans}
@@ -10,7 +9,9 @@ use lib.ListN.{length, getD, set, take, drop}
 use lib.Seq.{paste, length-take-le, getD-take}
 use Rattle.laws.specs.Turns.{through}
 use Rattle.laws.proofs.Through.{through-next}
+use Rattle.laws.proofs.Every.{none, one, every-append}
 use Rattle.laws.proofs.Growing.{length-snoc}
+use Rattle.laws.proofs.Pasting.{part-same}
 use Rattle.matching.specs.declared.Numbers.{Numbers}
 use Rattle.parts.specs.declared.TrackerConfig.{TrackerConfig}
 use Rattle.parts.specs.declared.TrackedObject.{TrackedObject}
@@ -21,14 +22,15 @@ use Rattle.tracked_object.specs.Object.{changedByOpening, blockOpened}
 use Rattle.tracked_object.proofs.ObjectLaws.{length-opened}
 use Rattle.table.specs.declared.Counts.{Counts}
 use Rattle.table.specs.Slots.{floatsBack}
-use Rattle.table.proofs.SlotLaws.{Sized, none, one, sized-append, slots-length, slots-sized, block-fits, floats-behind, records-put, floats-put}
+use Rattle.table.proofs.SlotLaws.{Sized, slots-length, slots-sized, block-fits, floats-behind, records-put, floats-put}
 use Rattle.passes.specs.Checks.{Frame}
 use Rattle.passes.specs.Passes.{numbers}
 use Rattle.laws.specs.Lists.{EachBelow}
-use Rattle.matching_step.specs.Step.{State, Fits, lentDetection, nextPermanent, opening, slotOpened, openOne, steppedOf}
+use Rattle.matching_step.specs.Step.{State, Fits, lentDetection, opening, slotOpened, openOne, steppedOf}
 use Rattle.matching_step.specs.declared.Stepped.{Stepped}
+use Rattle.matching_step.proofs.Hitting.{next-most}
 use Rattle.matching_step.proofs.PutBack.{found, Put, put-long, part-again}
-use Rattle.matching_step.proofs.Lending.{Lending, part-same, block-long, points-long, scores-long}
+use Rattle.matching_step.proofs.Lending.{Lending, block-long, points-long, scores-long}
 
 -- ---- the counts
 
@@ -40,10 +42,6 @@ pub record Raised (k : ℕ) (from to : Counts) : Type 0 where
   pub initializing : to .initializing ≡ from .initializing + k
   pub permanent : to .permanent ≤ from .permanent + k
 
-at-most-one : (took : Bool) (n : ℕ) → nextPermanent took n ≤ n + 1
-at-most-one true n = omega arith
-at-most-one false n = omega arith
-
 module _ (c : TrackerConfig) (f : Frame) (s : List Float) where
   abbrev pub opens : List ℕ → State → State
   opens l st = through (openOne c f s) l st
@@ -53,7 +51,7 @@ module _ (c : TrackerConfig) (f : Frame) (s : List Float) where
   opens-counts [] st = omega arith
   opens-counts (d ∷ l) st =
       let rest = opens-counts l (openOne c f s d st) in
-      let most = at-most-one (isZero (c .«initialization_delay»)) (st .counts .permanent) in
+      let most = next-most (isZero (c .«initialization_delay»)) (st .counts .permanent) in
       omega arith
 
   -- ---- the slots
@@ -84,7 +82,7 @@ module _ (c : TrackerConfig) (f : Frame) (s : List Float) where
         let next = openOne c f s d st in
         let long = opened-long d k (few 0 (omega arith)) (le-trans (block-fits b k (k + suc (length l)) (omega arith)) room) in
         let e : length (next .slots) + length l ≡ k + suc (length l) = omega (arith, opens-length (d ∷ []) st) in
-        opens-sized l next (λ i h. few (suc i) (omega arith)) (rw e room) (sized-append sized (one long none))
+        opens-sized l next (λ i h. few (suc i) (omega arith)) (rw e room) (every-append sized (one long none))
 
 -- ---- a turn
 

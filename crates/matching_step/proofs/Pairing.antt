@@ -1,17 +1,16 @@
 -- Rule 47: one pair more behind those that stand in an array's front.
-use mathlib.Core.Path.{_≡_}
+use mathlib.Core.Path.{_≡_, sym, _∙_}
 use mathlib.Core.List.{List, [], _∷_, _++_, map, map-append, append-assoc}
 use Prim.Native.Nat.{ℕ, suc, _+_, _-_, _<_}
 use native.Mathlib.Numerals.{add-one}
-use native.Mathlib.Omega.{arith}
 use lib.ListN.{length, set, take, replicate, length-append, length-map}
 use lib.Seq.{take-append-seam}
 use Rattle.laws.specs.Lists.{below, filled}
-use Rattle.laws.proofs.Growing.{length-below, filled-snoc}
+use Rattle.laws.proofs.Growing.{length-below, filled-next}
 use Rattle.matching.specs.declared.Picks.{Picks}
 use Rattle.matching.specs.Greedy.{Pick}
 use Rattle.matching.specs.Lent.{picked}
-use Rattle.matching_step.proofs.Picked.{pickAt, firstPicks}
+use Rattle.matching.proofs.Picked.{pickAt, firstPicks}
 
 -- the picks before i, each as f makes it, behind l
 abbrev pub behind : {A : Type 0} → List A → (Pick → A) → Picks → ℕ → List A
@@ -28,8 +27,7 @@ module _ {A : Type 0} (l : List A) (f : Pick → A) (picks : Picks) (i : ℕ) wh
   pub pair-put : (n : ℕ) (d : A) {k : ℕ} {r : List A} {x : A} → k ≡ length l + i → k < n → r ≡ filled n d (behind l f picks i) → x ≡ f (pickAt picks i)
       → set r k x ≡ filled n d (behind l f picks (i + 1))
   pair-put n d e h held same =
-      let long = length-behind in
-      rw (add-one i, one-behind, held, same, e, ← long) (filled-snoc n d (behind l f picks i) (f (pickAt picks i)) (omega arith))
+      rw (add-one i, one-behind, held, same) (filled-next n d (behind l f picks i) (f (pickAt picks i)) (length-behind ∙ sym e) h)
 
 -- what stands in front is found there
 pub length-picked : {A : Type 0} (f : Pick → A) (picks : Picks) → length (map f (picked picks)) ≡ picks .count

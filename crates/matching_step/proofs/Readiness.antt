@@ -17,6 +17,7 @@ use Rattle.matching.specs.Greedy.{rowsOf}
 use Rattle.matching.specs.Lent.{picked}
 use Rattle.matching.specs.Unmatched.{unmatched}
 use Rattle.matching.proofs.Left.{at-most-total}
+use Rattle.matching.proofs.Picked.{picked-of}
 use Rattle.parts.specs.Layout.{coords, blockSize}
 use Rattle.pairs.specs.declared.Pair.{Pair}
 use Rattle.table.specs.declared.Table.{Table}
@@ -33,7 +34,6 @@ use Rattle.matching_step.specs.declared.Decided.{Decided}
 use Rattle.matching_step.specs.declared.Matched.{Matched}
 use Rattle.matching_step.specs.Step.{matrixOf, firstHits, secondHits, toOpen, matchTable, matchFloats, pairOf, pairsOf, matchRefusal, noPair, refusedWith, matched, matchedFloats, decidedOf, Decidable, Ready}
 use Rattle.matching_step.proofs.Deciding.{few-hits}
-use Rattle.matching_step.proofs.Picked.{picked-of}
 
 -- ---- none is due before the picks
 

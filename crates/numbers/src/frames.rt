@@ -1,25 +1,29 @@
 // Rule 80: frames run through the public calls: a fish hit each frame, and a coarse run beside a fine one on the same fish.
 ghost use Prim.Native.Nat.{_<_, _≤_};
+use crate::put_or_none;
 use filter::FilterSettings;
 use libc::STDOUT_FILENO;
 use pairs::Pair;
 use parts::ReidCounter;
 use parts::TrackerConfig;
-use table::Phase;
 use table::Table;
-use table::making;
 
 // One point of one coordinate, 8 records, no history: 8 blocks of 8 floats. Maximum 15, delay 7.
 fn settings() -> TrackerConfig {
+    settings_with(7, ReidCounter::Absent)
+}
+
+// The same with this delay and this ReID maximum.
+fn settings_with(delay: i32, reid: ReidCounter) -> TrackerConfig {
     TrackerConfig {
         points: 1,
         dims: 1,
         capacity: 8,
         past_detections_length: 0,
         hit_counter_max: 15,
-        initialization_delay: 7,
+        initialization_delay: delay,
         pointwise_hit_counter_max: 4,
-        reid_hit_counter_max: ReidCounter::Absent,
+        reid_hit_counter_max: reid,
         distance_threshold: 1.0,
         detection_threshold: 0.0,
         reid_distance_threshold: 1.0,
@@ -35,21 +39,6 @@ fn no_pairs() -> [Pair; 40] {
         pass: 0,
         distance: 0.0,
     }; 40]
-}
-
-// Ready for the next frame, as if step 3 had found nothing to merge.
-fn next_frame(t: Table) -> Table {
-    let records = t.records;
-    let config = t.config;
-    let counts = t.counts;
-    let lists = making::no_lists();
-    Table {
-        records,
-        config,
-        counts,
-        phase: Phase::Predict,
-        lists,
-    }
 }
 
 fn distance(a: f64, b: f64) -> f64 {
@@ -79,7 +68,7 @@ fn measured(mut distances: [f64; 32], start: usize, x: f64, storage: &[f64], n: 
     distances
 }
 
-// A frame in which the first n of these fish are seen: predict, measure, match.
+// A frame in which the first n of these fish are seen: predict, measure, match, and step 3 with no ReID distance declared.
 fn frame(t: Table, storage: &mut [f64], period: u32, fish: [f64; 3], n: usize) -> Table {
     let first = tracker::predict(t, storage);
     let before = first.table;
@@ -115,7 +104,9 @@ fn frame(t: Table, storage: &mut [f64], period: u32, fish: [f64; 3], n: usize) -
     );
     let answer = r.answer;
     let after = answer.table;
-    next_frame(after)
+    let none = [0.0; 0];
+    let mut active = [0u32; 8];
+    tracker::reid(after, storage, &none, &mut active).table
 }
 
 // Delay 7, maximum 15, period 1, hit each frame: permanent ID on the seventh hit.
@@ -177,4 +168,53 @@ fn run(period: u32)
 pub fn coarse_and_fine() {
     run(1);
     run(3);
+}
+
+// The hit counter of the first record.
+fn put_counter(t: Table) {
+    let records = t.records;
+    let o = records[0];
+    let life = o.life;
+    io::write_all(STDOUT_FILENO, b" ");
+    put_or_none(life.hit_counter);
+}
+
+// ReID maximum 2, maximum 15, delay 0, period 1; opened in frame 1, missed in 2, hit in 3 to 6: dropped in frame 7 with hit counter 4.
+pub fn dropped_while_hit() {
+    let mut storage = [0.0; 64];
+    let mut t = tracker::new(settings_with(0, ReidCounter::Present(2)), &storage).table;
+    io::write_all(
+        STDOUT_FILENO,
+        b"ReID maximum 2, delay 0, missed in frame 2: hit counters of frames 1 to 6",
+    );
+    let mut n = 1u64;
+    while n < 7 {
+        let mut fish = 1;
+        if n == 2 {
+            fish = 0;
+        }
+        t = frame(t, &mut storage, 1, [0.0; 3], fish);
+        put_counter(t);
+        n += 1;
+    }
+    let last = tracker::predict(t, &mut storage).table;
+    let counts = last.counts;
+    io::write_all(STDOUT_FILENO, b"; records in frame 7: ");
+    io::print_decimal(STDOUT_FILENO, counts.records as u64);
+    io::write_all(STDOUT_FILENO, b"\n");
+}
+
+// Delay 14 of 15 is accepted, 15 is refused by 2.
+pub fn delays() {
+    let storage = [0.0; 64];
+    let mut config = settings();
+    config.initialization_delay = 14;
+    let first = tracker::new(config, &storage);
+    config.initialization_delay = 15;
+    let second = tracker::new(config, &storage);
+    io::write_all(STDOUT_FILENO, b"maximum 15: delay 14 answers ");
+    io::print_decimal(STDOUT_FILENO, first.refusal as u64);
+    io::write_all(STDOUT_FILENO, b", delay 15 answers ");
+    io::print_decimal(STDOUT_FILENO, second.refusal as u64);
+    io::write_all(STDOUT_FILENO, b"\n");
 }

@@ -14,11 +14,13 @@ use tracked_object::merging;
 use tracked_object::merging::Marks;
 
 fn main() {
+    frames::delays();
     row_of_zeros();
+    frames::seventh_hit();
+    frames::dropped_while_hit();
     full_history(3, 12);
     full_history(3, 11);
     full_history(-1, 12);
-    frames::seventh_hit();
     frames::coarse_and_fine();
 }
 
@@ -97,24 +99,24 @@ fn full_history(oldest: i32, age: u32)
         false,
     );
     io::write_all(STDOUT_FILENO, b"L 4, full, oldest age ");
-    put_age(oldest);
+    put_or_none(oldest);
     io::write_all(STDOUT_FILENO, b", at age ");
     io::print_decimal(STDOUT_FILENO, age as u64);
     io::write_all(STDOUT_FILENO, b": the oldest is now ");
     let ages = after.past;
     let now = ages[0];
-    put_age(now.age);
+    put_or_none(now.age);
     let newest = ages[3];
     io::write_all(STDOUT_FILENO, b", the newest ");
-    put_age(newest.age);
+    put_or_none(newest.age);
     io::write_all(STDOUT_FILENO, b"\n");
 }
 
-// An age, or none for -1.
-fn put_age(age: i32) {
-    if age < 0 {
+// An age or a hit counter, or none below 0.
+fn put_or_none(n: i32) {
+    if n < 0 {
         io::write_all(STDOUT_FILENO, b"none");
         return;
     }
-    io::print_decimal(STDOUT_FILENO, age as u64);
+    io::print_decimal(STDOUT_FILENO, n as u64);
 }

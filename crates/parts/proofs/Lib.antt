@@ -2,6 +2,5 @@
 pub mod Bounds
 pub mod Kept
 pub mod LifeLaws
-pub mod Marked
 pub mod PastLaws
 pub mod PointLaws

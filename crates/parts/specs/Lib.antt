@@ -4,4 +4,3 @@ pub mod Ranges
 pub mod Life
 pub mod Points
 pub mod Past
-pub mod Marked

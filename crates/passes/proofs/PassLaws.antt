@@ -2,27 +2,27 @@
 use mathlib.Core.Path.{_≡_, refl, sym, _∙_, ap}
 use mathlib.Core.Bool.{Bool, true, false, true≢false, not, _&&_, _||_, cond}
 use mathlib.Core.List.{List, [], _∷_, _++_}
-use Prim.Native.Nat.{ℕ, zero, suc, _+_, _-_, _<_, _≤_, zero-le}
-use native.Mathlib.Nat.{le-refl, le-trans, le-of-suc-le-suc}
+use Prim.Native.Nat.{ℕ, zero, suc, _+_, _-_, _≤_, zero-le}
+use native.Mathlib.Nat.{le-refl, le-trans}
 use native.Mathlib.Omega.{arith}
 use borrow.Author.Tests.{eqb-false, le-ltb}
 use lib.Dec.{eqb, ltb}
-use lib.ListN.{length, getD, set, replicate, length-append, length-map, List·getD-append}
-use lib.Seq.{take-append-seam, take-at, getD-set-other}
-use Rattle.laws.specs.Lists.{below, keep, any, holds, times}
+use lib.ListN.{length, set, replicate, length-append, length-map}
+use lib.Seq.{take-append-seam, getD-set-other}
+use Rattle.laws.specs.Lists.{below, keep, any, holds, times, EachBelow}
 use Rattle.laws.specs.Turns.{through}
+use Rattle.laws.proofs.Every.{each-padded}
 use Rattle.laws.proofs.Growing.{length-filled}
 use Rattle.matching.specs.declared.Numbers.{Numbers}
 use Rattle.matching.specs.Greedy.{Matrix, Pick, free, marked, cleared, rowsOf, colsOf}
 use Rattle.matching.specs.Lent.{picksOf}
 use Rattle.matching.specs.Unmatched.{unmatched, numbersOf}
 use Rattle.matching.proofs.Laws.{rows-taken, cols-taken}
-use Rattle.matching.proofs.Taken.{Taken, none, next, taken-append, taken-at-most, taken-times, taken-once, used-not-taken}
-use Rattle.laws.specs.Lists.{EachBelow, padded}
-use Rattle.passes.specs.Passes.{numbers, pickedRows, pickedCols, firstPass, secondPass, among, leftOver, aliveLeft, oldOnes}
+use Rattle.matching.proofs.Taken.{Taken, taken-append, taken-at-most, taken-below, taken-times, taken-once, used-not-taken}
+use Rattle.passes.specs.Passes.{numbers, firstPass, secondPass, among, leftOver, aliveLeft, oldOnes}
 use Rattle.laws.proofs.Counting.{times-append, times-keep, kept-at-most, times-below, below-once, not-held, no-times, held, few-below}
 
--- ---- a struct of numbers, or of picks, lists what it was made of
+-- ---- a struct of numbers lists what it was made of
 
 pub numbers-of : (l : List ℕ) → numbers (numbersOf l) ≡ l
 numbers-of l = take-append-seam l (replicate (64 - length l) 0)
@@ -40,13 +40,6 @@ module _ (l : List ℕ) {r : Numbers} (e : r ≡ numbersOf l) where
 
   pub count-inside : length l ≤ 64 → r .count ≤ length (r .at)
   count-inside h = rw e (omega (arith, length-filled 64 0 l h))
-
-module _ (l : List Pick) where
-  pub picked-rows : pickedRows (picksOf l) ≡ rowsOf l
-  picked-rows = take-at (rowsOf l) (replicate (32 - length (rowsOf l)) 0) (length l) (length-map l (λ p. p .row))
-
-  pub picked-cols : pickedCols (picksOf l) ≡ colsOf l
-  picked-cols = take-at (colsOf l) (replicate (32 - length (colsOf l)) 0) (length l) (length-map l (λ p. p .col))
 
 -- ---- a pass from these flags on: each row and column was free when it was picked
 
@@ -68,11 +61,6 @@ second-passed m initializing rows =
     let uc = cleared initializing (replicate 64 true) in
     record { rows = rows-taken m ur uc; cols = cols-taken m ur uc }
 
-pub taken-below : {n : ℕ} {u : List Bool} {l : List ℕ} → Taken n u l → (i : ℕ) → i < length l → getD l i 0 < n
-taken-below none i h = absurd (omega arith)
-taken-below (next lt f t) zero h = lt
-taken-below (next lt f t) (suc i) h = taken-below t i (le-of-suc-le-suc h)
-
 -- what is taken stands below n, once
 taken-within : {n : ℕ} {u : List Bool} {l : List ℕ} → Taken n u l → (x : ℕ) → times x l ≤ times x (below n)
 taken-within {n} {u} t x = rw (times-below x n) (le-trans (taken-times t x) (go (free u x)))
@@ -81,23 +69,13 @@ taken-within {n} {u} t x = rw (times-below x n) (le-trans (taken-times t x) (go 
     go true = le-refl (cond (ltb x n) 1 0)
     go false = zero-le
 
--- a number of a list in an array
-padded-at : (l : List ℕ) (i : ℕ) → i < length l → getD (padded 32 l) i 0 ≡ getD l i 0
-padded-at l i h = List·getD-append l (replicate (32 - length l) 0) 0 i h
-
 module _ {m : Matrix} {ur uc : List Bool} {l : List Pick} (p : Passed m ur uc l) where
-  pub row-below : (i : ℕ) → i < length l → getD (rowsOf l) i 0 < m .rows
-  row-below i h = taken-below (p .rows) i (rw (length-map l (λ q. q .row)) h)
-
-  pub col-below : (i : ℕ) → i < length l → getD (colsOf l) i 0 < m .cols
-  col-below i h = taken-below (p .cols) i (rw (length-map l (λ q. q .col)) h)
-
   -- as the struct that is returned
   pub rows-inside : EachBelow (m .rows) (picksOf l .count) (picksOf l .rows)
-  rows-inside i h = rw (padded-at (rowsOf l) i (rw (length-map l (λ q. q .row)) h)) (row-below i h)
+  rows-inside = each-padded 32 (rowsOf l) (length-map l (λ q. q .row)) (taken-below (p .rows))
 
   pub cols-inside : EachBelow (m .cols) (picksOf l .count) (picksOf l .cols)
-  cols-inside i h = rw (padded-at (colsOf l) i (rw (length-map l (λ q. q .col)) h)) (col-below i h)
+  cols-inside = each-padded 32 (colsOf l) (length-map l (λ q. q .col)) (taken-below (p .cols))
 
   -- and as the one that `second_pass` takes
   pub rows-within : m .rows ≤ 32 → EachBelow 32 (picksOf l .count) (picksOf l .rows)

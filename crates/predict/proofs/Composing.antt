@@ -1,21 +1,19 @@
 -- Step 1's parts one after another: what was dropped to is found again by the sort and the prediction.
-use mathlib.Core.Path.{_≡_, refl, sym, _∙_}
-use mathlib.Core.Bool.{Bool, true, false, cond}
-use mathlib.Core.List.{List, [], _∷_, _++_}
-use Prim.Native.Nat.{ℕ, zero, suc, _*_, _<_, _≤_}
-use native.Mathlib.Nat.{mul-le-mul-right, le-trans, le-of-suc-le-suc}
+use mathlib.Core.Path.{_≡_}
+use mathlib.Core.List.{List, []}
+use Prim.Native.Nat.{ℕ, _*_, _≤_}
+use native.Mathlib.Nat.{mul-le-mul-right, le-trans}
 use native.Mathlib.Omega.{arith}
 use lib.Ieee.{Float}
 use lib.ListN.{length, getD}
-use Rattle.laws.specs.Lists.{below, keep}
+use Rattle.laws.proofs.Every.{every-at, every-keep}
 use Rattle.laws.proofs.Growing.{keep-alike}
 use Rattle.parts.specs.declared.TrackerConfig.{TrackerConfig}
 use Rattle.parts.specs.declared.TrackedObject.{TrackedObject}
 use Rattle.parts.specs.Layout.{blockSize}
-use Rattle.parts.specs.Ranges.{ObjectInRange}
 use Rattle.table.specs.Making.{zeroObject}
 use Rattle.table.specs.Slots.{Slot, slots, objectsOf, recordsBack, floatsBack, AllInRange}
-use Rattle.table.proofs.Ranged.{ranged-slots, ranged-keep, ranged-at}
+use Rattle.table.proofs.Ranged.{ranged-slots}
 use Rattle.table.proofs.SlotLaws.{slots-back, records-front, records-at, records-again, floats-again}
 use Rattle.predict.specs.declared.Kept.{Kept}
 use Rattle.predict.specs.declared.Sort.{Sort}
@@ -38,8 +36,8 @@ module _ (c : TrackerConfig) (n : ℕ) (records : List TrackedObject) (s : List 
   kept-ranges all =
       let l = keptOf c n records s in
       let d : Slot = record { object = zeroObject; block = [] } in
-      let ranged = ranged-keep (stays c) (ranged-slots c (blockSize c) records s n all) in
-      rw kept (λ i h. rw (records-at l records i zeroObject d h) (ranged-at i d ranged h))
+      let ranged = every-keep (stays c) (ranged-slots c (blockSize c) records s n all) in
+      rw kept (λ i h. rw (records-at l records i zeroObject d h) (every-at i d ranged h))
 
   pub sorted : (sort : Sort) → placesOf c sort (k .count) (k .records) ≡ placesOf c sort (length (keptOf c n records s)) (objectsOf (keptOf c n records s))
   sorted sort =

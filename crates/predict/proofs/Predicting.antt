@@ -1,12 +1,14 @@
 -- Rule 32: record i and its block, predicted, behind those predicted before it.
 use mathlib.Core.Path.{_≡_, sym, _∙_, ap}
-use mathlib.Core.List.{List, [], _∷_, _++_, map-append, append-assoc}
+use mathlib.Core.List.{List, [], _∷_, _++_, map-append}
 use Prim.Native.Nat.{ℕ, suc, _+_, _-_, _*_, _<_, _≤_}
 use native.Mathlib.Nat.{mul-le-mul-right, le-trans}
 use native.Mathlib.Omega.{arith}
 use lib.Ieee.{Float}
-use lib.ListN.{length, getD, take, drop, set, length-drop, length-map}
-use lib.Seq.{paste, length-take-le, take-all, drop-drop}
+use lib.ListN.{length, getD, take, drop, set, length-map}
+use lib.Seq.{paste}
+use Rattle.laws.proofs.Every.{every-weaker, every-map}
+use Rattle.laws.proofs.Pasting.{part-same, length-part, part-back}
 use Rattle.parts.specs.declared.TrackerConfig.{TrackerConfig}
 use Rattle.parts.specs.declared.TrackedObject.{TrackedObject}
 use Rattle.parts.specs.Layout.{blockSize}
@@ -14,7 +16,7 @@ use Rattle.tracked_object.specs.Object.{objectPredicted, blockPredicted}
 use Rattle.tracked_object.proofs.ObjectLaws.{length-predicted}
 use Rattle.table.specs.Making.{zeroObject}
 use Rattle.table.specs.Slots.{Slot, slots, recordsBack, floatsBack}
-use Rattle.table.proofs.SlotLaws.{Sized, sized-map, slots-suc, slots-length, slots-sized, slotAt, block-fits, records-length, records-behind, records-put, floats-length, floats-put, floats-behind}
+use Rattle.table.proofs.SlotLaws.{Sized, slots-suc, slots-length, slots-sized, slotAt, block-fits, records-length, records-behind, records-put, floats-length, floats-put, floats-behind}
 use Rattle.predict.specs.Step.{slotPredicted, eachPredicted}
 
 -- predicting keeps the number of slots and the sizes of blocks
@@ -22,7 +24,7 @@ pub predicted-length : (c : TrackerConfig) (l : List Slot) → length (eachPredi
 predicted-length c l = length-map l (slotPredicted c)
 
 pub predicted-sized : (c : TrackerConfig) {b : ℕ} {l : List Slot} → Sized b l → Sized b (eachPredicted c l)
-predicted-sized c sized = sized-map (slotPredicted c) sized (λ (x : Slot). λ e. length-predicted c (x .block) ∙ e)
+predicted-sized c sized = every-map (slotPredicted c) (every-weaker (λ x e. length-predicted c (x .block) ∙ e) sized)
 
 module _ (c : TrackerConfig) (records : List TrackedObject) (s : List Float) (i : ℕ) where
   abbrev pub ahead : List Slot
@@ -67,16 +69,13 @@ module _ (c : TrackerConfig) (records : List TrackedObject) (s : List Float) (i 
       → ys ≡ blockPredicted c (take (i * size + size - i * size) (drop (i * size) f))
       → g ≡ take (i * size) f ++ (ys ++ drop (i * size + size - i * size) (drop (i * size) f))
       → g ≡ floatsBack (blockSize c) (eachPredicted c (slots (blockSize c) records s (suc i))) s
-  block-predicted {size = size} {f = f} e room held same lent =
+  block-predicted {size = size} {f = f} {ys = ys} e room held same lent =
       let b = blockSize c in
       let fits : i * b + b ≤ length s = rw e at room in
       let sized = ahead-sized (omega (arith, fits)) in
       let y = slotPredicted c (slotAt b records s i) in
-      let part : i * size + size - i * size ≡ size = omega arith in
       let behind = floats-behind sized s (i * b) (rw ahead-length (omega arith)) in
-      let long = length-predicted c (take b (drop (i * b) s)) ∙ length-take-le b (drop (i * b) s) (omega (arith, fits, length-drop (i * b) s)) in
+      let long = length-predicted c (take b (drop (i * b) s)) ∙ length-part s (i * b) b fits in
       let put = floats-put sized s y long ∙ ap (λ (k : ℕ). paste (floatsBack b ahead s) (k * b) (y .block) b) ahead-length in
-      lent
-      ∙ rw (same, part, drop-drop size (i * size) f, e, held, behind, ahead-suc)
-      (sym (append-assoc (take (i * b) (floatsBack b ahead s)) (y .block) (drop (i * b + b) (floatsBack b ahead s)))
-      ∙ sym (put ∙ rw (take-all b (y .block) (omega (arith, long)))))
+      let made : ys ≡ y .block = same ∙ rw (part-same f (i * size) size, e, held, behind) in
+      lent ∙ part-back f (i * size) size ys (rw (made, e) long) ∙ rw (made, e, held, ahead-suc) (sym put)

@@ -1,18 +1,17 @@
 -- Rules 30 to 33: step 1's account is fair, it touches only the floats of its records, and its lists name each place once.
 use mathlib.Core.Path.{_≡_, refl, sym, _∙_, ap}
-use mathlib.Core.Logic.{⊎-elim}
-use mathlib.Core.Bool.{Bool, true, false, not, cond, _&&_, _||_, and-true, and-false}
-use mathlib.Core.List.{List, [], _∷_, _++_, map}
-use Prim.Native.Nat.{ℕ, zero, suc, _+_, _-_, _*_, _<_, _≤_}
-use native.Mathlib.Nat.{mul-le-mul-right, le-trans, eq-or-lt-of-le}
-use native.Mathlib.Omega.{arith}
-use borrow.Author.Tests.{ltb-true, ltb-false, lt-ltb, le-ltb, eqb-true, eqb-false}
+use mathlib.Core.Bool.{Bool, true, false, cond, _&&_}
+use mathlib.Core.List.{List, [], _∷_}
+use Prim.Native.Nat.{ℕ, _+_, _-_, _*_, _<_, _≤_}
+use native.Mathlib.Nat.{mul-le-mul-right, le-trans}
+use borrow.Author.Tests.{ltb-true}
 use lib.Dec.{eqb, ltb}
 use lib.Ieee.{Float}
 use lib.ListN.{length, getD, take, drop, replicate}
 use lib.Seq.{take-at, take-append-seam}
-use Rattle.laws.specs.Lists.{below, keep, any, holds, times}
-use Rattle.laws.proofs.Counting.{bit-at-most-one, times-keep, times-below, holds-times}
+use Rattle.laws.specs.Lists.{below, keep, holds, times}
+use Rattle.laws.proofs.Counting.{bit-at-most-one, times-kept, holds-kept}
+use Rattle.laws.proofs.Weighing.{parted}
 use Rattle.matching.specs.declared.Numbers.{Numbers}
 use Rattle.parts.specs.declared.TrackerConfig.{TrackerConfig}
 use Rattle.parts.specs.Layout.{blockSize}
@@ -36,17 +35,6 @@ unfolding objectPredicted
 names-predicted c [] = refl
 names-predicted c (x ∷ l) = ap (λ (r : List ℕ). nameOf (x .object) ∷ r) (names-predicted c l)
 
--- those that stay and those that leave are all of them
-parted : (x : ℕ) (p : Slot → Bool) (l : List Slot) → times x (names l) ≡ times x (names (keep (λ y. not (p y)) l)) + times x (names (keep p l))
-unfolding keep times
-parted x p [] = refl
-parted x p (y ∷ l) = go (p y) (keep (λ z. not (p z)) l) (keep p l) (parted x p l)
-  where
-    go : (b : Bool) (stay leave : List Slot) → times x (names l) ≡ times x (names stay) + times x (names leave)
-        → times x (names (y ∷ l)) ≡ times x (names (cond (not b) (y ∷ stay) stay)) + times x (names (cond b (y ∷ leave) leave))
-    go true stay leave e = omega arith
-    go false stay leave e = omega arith
-
 module _ (t : Table) (s : List Float) where
   pub names-kept : tableNames (predictTable t s) ≡ names (slotsKept t s)
   unfolding predictTable
@@ -59,10 +47,10 @@ module _ (t : Table) (s : List Float) where
   -- who is in the table after, and who was dropped: exactly who was in it before, as often
   pub fair : t .counts .records ≤ length (t .records) → (x : ℕ)
       → times x (tableNames t) ≡ times x (tableNames (predictTable t s)) + times x (dropped t s)
-  unfolding dropped
+  unfolding dropped times
   fair h x =
       rw (names-kept, ← slots-objects (blockSize (t .config)) (t .records) s (t .counts .records) h, names-objects (tableSlots t s))
-      (parted x (λ y. gone (t .config) (y .object)) (tableSlots t s))
+      (parted (λ y. cond (eqb y x) 1 0) (times x) refl (λ y l. refl) (λ y. nameOf (y .object)) (λ y. gone (t .config) (y .object)) (tableSlots t s))
 
 -- ---- the floats
 
@@ -92,20 +80,6 @@ listOf Dead l = l .dead
 abbrev pub numbersIn : Numbers → List ℕ
 numbersIn m = take (m .count) (m .at)
 
-in-both : (a b : Bool) → _≡_ {A = ℕ} (cond b (cond a 1 0) 0) (cond (a && b) 1 0)
-in-both true true = refl
-in-both true false = refl
-in-both false true = refl
-in-both false false = refl
-
--- a place below the count stands in the list once if its record belongs there, and nothing else does
-times-fitting : (p : ℕ → Bool) (x n : ℕ) → times x (keep p (below n)) ≡ cond (ltb x n && p x) 1 0
-times-fitting p x n = times-keep x p (below n) ∙ rw (times-below x n) (in-both (ltb x n) (p x))
-
-above-zero : (b : Bool) → ltb 0 (cond b 1 0) ≡ b
-above-zero true = refl
-above-zero false = refl
-
 first : (a b : Bool) → (a && b) ≡ true → a ≡ true
 first true b h = refl
 first false b h = h
@@ -133,10 +107,10 @@ module _ (t : Table) (s : List Float) (sort : Sort) where
       rw (is-placed t s sort) (take-append-seam l (replicate (64 - length l) 0))
 
   listed-times : (x : ℕ) → times x listed ≡ cond (ltb x (predictTable t s .counts .records) && fitting x) 1 0
-  listed-times x = ap (times x) in-order ∙ times-fitting fitting x (predictTable t s .counts .records)
+  listed-times x = ap (times x) in-order ∙ times-kept fitting x (predictTable t s .counts .records)
 
   pub membership : (i : ℕ) → holds i listed ≡ (ltb i (predictTable t s .counts .records) && fitting i)
-  membership i = holds-times i listed ∙ ap (ltb 0) (listed-times i) ∙ above-zero (ltb i (predictTable t s .counts .records) && fitting i)
+  membership i = ap (holds i) in-order ∙ holds-kept fitting i (predictTable t s .counts .records)
 
   pub listed-once : (x : ℕ) → times x listed ≤ 1
   listed-once x = rw (listed-times x) (bit-at-most-one (ltb x (predictTable t s .counts .records) && fitting x))

@@ -1,5 +1,6 @@
 // Bad input to the public calls: each refusal alone and in pairs, so that the first in order answers, with the table and the storage compared afterwards.
 mod same;
+mod step_three;
 mod step_two;
 
 use filter::FilterSettings;
@@ -17,6 +18,9 @@ fn main() {
     lists();
     step_two::faults();
     step_two::accepted();
+    step_three::faults();
+    step_three::lengths();
+    step_three::altered();
 }
 
 // One point of two coordinates, two records, no history: 2 blocks of 15 floats.
@@ -38,13 +42,25 @@ pub fn good() -> TrackerConfig {
     }
 }
 
+pub fn put(name: &[u8], n: usize) {
+    io::write_all(STDOUT_FILENO, name);
+    io::print_decimal(STDOUT_FILENO, n as u64);
+}
+
+pub fn put_kept(kept: bool) {
+    if kept {
+        io::write_all(STDOUT_FILENO, b", nothing changed\n");
+    } else {
+        io::write_all(STDOUT_FILENO, b", changed\n");
+    }
+}
+
 // What a making answers, and whether a refused one returned zeros.
 fn make(name: &[u8], config: TrackerConfig, storage: &[f64]) {
     let a = tracker::new(config, storage);
     io::write_all(STDOUT_FILENO, b"making, ");
     io::write_all(STDOUT_FILENO, name);
-    io::write_all(STDOUT_FILENO, b": ");
-    io::print_decimal(STDOUT_FILENO, a.refusal as u64);
+    put(b": ", a.refusal as usize);
     if a.refusal == 0 {
         io::write_all(STDOUT_FILENO, b"\n");
         return;
@@ -61,31 +77,32 @@ fn make(name: &[u8], config: TrackerConfig, storage: &[f64]) {
     }
 }
 
-fn makings() {
+// A making with this delay, maximum and number of points, and so many floats.
+fn make_with(name: &[u8], delay: i32, maximum: i32, points: usize, floats: usize) {
     let storage = [0.0; 31];
-    let c = good();
-    make(b"good", c, &storage[..30]);
-    make(b"one float too long", c, &storage);
-    make(b"one float short", c, &storage[..29]);
-    let mut d = c;
-    d.initialization_delay = 14;
-    make(b"delay 14 of 15", d, &storage);
-    d.initialization_delay = 15;
-    make(b"delay 15 of 15", d, &storage);
-    make(b"delay 15 of 15, storage short", d, &storage[..29]);
-    d.initialization_delay = -2;
-    make(b"delay -2", d, &storage);
-    make(b"delay -2, storage short", d, &storage[..29]);
-    d.hit_counter_max = -4;
-    make(b"delay -2 of -4", d, &storage);
-    d.hit_counter_max = 15;
-    d.points = 17;
-    make(b"delay -2, 17 points", d, &storage);
-    d.initialization_delay = 15;
-    make(b"delay 15 of 15, 17 points", d, &storage);
-    d.initialization_delay = 7;
-    make(b"17 points", d, &storage);
-    make(b"17 points, storage short", d, &storage[..29]);
+    let mut config = good();
+    config.initialization_delay = delay;
+    config.hit_counter_max = maximum;
+    config.points = points;
+    if floats <= 31 {
+        make(name, config, &storage[..floats]);
+    }
+}
+
+fn makings() {
+    make_with(b"good", 7, 15, 1, 30);
+    make_with(b"one float too long", 7, 15, 1, 31);
+    make_with(b"one float short", 7, 15, 1, 29);
+    make_with(b"delay 14 of 15", 14, 15, 1, 31);
+    make_with(b"delay 15 of 15", 15, 15, 1, 31);
+    make_with(b"delay 15 of 15, storage short", 15, 15, 1, 29);
+    make_with(b"delay -2", -2, 15, 1, 31);
+    make_with(b"delay -2, storage short", -2, 15, 1, 29);
+    make_with(b"delay -2 of -4", -2, -4, 1, 31);
+    make_with(b"delay -2, 17 points", -2, 15, 17, 31);
+    make_with(b"delay 15 of 15, 17 points", 15, 15, 17, 31);
+    make_with(b"17 points", 7, 15, 17, 31);
+    make_with(b"17 points, storage short", 7, 15, 17, 29);
 }
 
 // A list of two places.
@@ -156,76 +173,72 @@ fn step(name: &[u8], t: Table, n: usize) {
     let a = lent(t, &mut storage, n);
     io::write_all(STDOUT_FILENO, b"step 1, ");
     io::write_all(STDOUT_FILENO, name);
-    io::write_all(STDOUT_FILENO, b": ");
-    io::print_decimal(STDOUT_FILENO, a.refusal as u64);
+    put(b": ", a.refusal as usize);
     let after = a.table;
-    if laws::both(
+    put_kept(laws::both(
         same::same_tables(t, after),
         same::same_floats(&before, &storage),
-    ) {
-        io::write_all(STDOUT_FILENO, b", nothing changed\n");
-    } else {
-        io::write_all(STDOUT_FILENO, b", changed\n");
-    }
+    ));
+    put_counts(t);
+}
+
+fn put_counts(t: Table) {
     let total = tracker::total_object_count(t);
     let current = tracker::current_object_count(t);
-    io::write_all(STDOUT_FILENO, b"  counts: ");
-    io::print_decimal(STDOUT_FILENO, total.refusal as u64);
-    io::write_all(STDOUT_FILENO, b" ");
-    io::print_decimal(STDOUT_FILENO, total.count as u64);
-    io::write_all(STDOUT_FILENO, b", ");
-    io::print_decimal(STDOUT_FILENO, current.refusal as u64);
-    io::write_all(STDOUT_FILENO, b" ");
-    io::print_decimal(STDOUT_FILENO, current.count as u64);
+    put(b"  counts: ", total.refusal as usize);
+    put(b" ", total.count);
+    put(b", ", current.refusal as usize);
+    put(b" ", current.count);
     io::write_all(STDOUT_FILENO, b"\n");
 }
 
-fn steps() {
+// A table after so many frames: fresh, or zeros where the delay is refused.
+fn made(delay: i32, frames: u32) -> Table {
     let storage = [0.0; 31];
-    let fresh = tracker::new(good(), &storage).table;
-    let mut bad = good();
-    bad.initialization_delay = -2;
-    let zeros = tracker::new(bad, &storage).table;
-    let used_up = framed(fresh, 200000000);
-    step(b"fresh", fresh, 30);
-    step(b"fresh, one float too long", fresh, 31);
-    step(b"zeros", zeros, 30);
-    step(b"one float short", fresh, 29);
-    step(b"out of step", stepped(fresh), 30);
-    step(b"frames used up", used_up, 30);
-    step(b"too many frames", framed(fresh, 200000001), 30);
-    step(b"zeros, storage short", zeros, 0);
-    step(b"zeros, out of step", stepped(zeros), 30);
-    step(
-        b"too many frames, storage short",
-        framed(fresh, 200000001),
-        29,
-    );
-    step(b"storage short, out of step", stepped(fresh), 29);
-    step(b"storage short, frames used up", used_up, 29);
-    step(b"out of step, frames used up", stepped(used_up), 30);
+    let mut config = good();
+    config.initialization_delay = delay;
+    framed(tracker::new(config, &storage).table, frames)
+}
+
+fn in_step(name: &[u8], delay: i32, frames: u32, n: usize) {
+    step(name, made(delay, frames), n);
+}
+
+fn out_of_step(name: &[u8], delay: i32, frames: u32, n: usize) {
+    step(name, stepped(made(delay, frames)), n);
+}
+
+fn steps() {
+    in_step(b"fresh", 7, 0, 30);
+    in_step(b"fresh, one float too long", 7, 0, 31);
+    in_step(b"zeros", -2, 0, 30);
+    in_step(b"one float short", 7, 0, 29);
+    out_of_step(b"out of step", 7, 0, 30);
+    in_step(b"frames used up", 7, 200000000, 30);
+    in_step(b"too many frames", 7, 200000001, 30);
+    in_step(b"zeros, storage short", -2, 0, 0);
+    out_of_step(b"zeros, out of step", -2, 0, 30);
+    in_step(b"too many frames, storage short", 7, 200000001, 29);
+    out_of_step(b"storage short, out of step", 7, 0, 29);
+    in_step(b"storage short, frames used up", 7, 200000000, 29);
+    out_of_step(b"out of step, frames used up", 7, 200000000, 30);
+}
+
+// Step 1 after so many frames, with two records and this alive list.
+fn with_list(name: &[u8], alive: Numbers, frames: u32) {
+    step(name, listed(made(7, frames), alive), 30);
 }
 
 fn lists() {
-    let storage = [0.0; 31];
-    let fresh = tracker::new(good(), &storage).table;
-    step(b"a list of both records", listed(fresh, two(1, 0)), 30);
-    step(
-        b"a list that names a record twice",
-        listed(fresh, two(1, 1)),
-        30,
-    );
-    step(
-        b"a list that names a record past the count",
-        listed(fresh, two(0, 2)),
-        30,
-    );
+    with_list(b"a list of both records", two(1, 0), 0);
+    with_list(b"a list that names a record twice", two(1, 1), 0);
+    with_list(b"a list that names a record past the count", two(0, 2), 0);
     let mut long = two(0, 1);
     long.count = 65;
-    step(b"a list longer than its array", listed(fresh, long), 30);
-    step(
+    with_list(b"a list longer than its array", long, 0);
+    with_list(
         b"a list that names a record twice, frames used up",
-        listed(framed(fresh, 200000000), two(1, 1)),
-        30,
+        two(1, 1),
+        200000000,
     );
 }

@@ -1,5 +1,7 @@
 // Bad input to step 2: each refusal alone and in pairs, with table, storage and pair list compared afterwards; then what it accepts at its ends.
 use crate::good;
+use crate::put;
+use crate::put_kept;
 use crate::same;
 use libc::STDOUT_FILENO;
 use matching::Numbers;
@@ -28,7 +30,7 @@ fn no_pairs() -> [Pair; 40] {
 }
 
 // A table of n records, the first of them alive, in this phase.
-fn holding(t: Table, n: usize, phase: Phase) -> Table {
+pub fn holding(t: Table, n: usize, phase: Phase) -> Table {
     let mut counts = t.counts;
     counts.records = n;
     counts.opened = 2;
@@ -92,7 +94,7 @@ fn out_of_step(t: Table) -> Table {
 }
 
 // The table with more frames, a smaller capacity or more records opened, as the refusal asks.
-fn spoilt(t: Table, refusal: usize) -> Table {
+pub fn spoilt(t: Table, refusal: usize) -> Table {
     let mut next = t;
     let mut counts = t.counts;
     let mut config = t.config;
@@ -197,15 +199,11 @@ fn run(c: Case) {
             same::same_pairs(pairs, list),
         ),
     );
-    if kept {
-        io::write_all(STDOUT_FILENO, b", nothing changed\n");
-    } else {
-        io::write_all(STDOUT_FILENO, b", changed\n");
-    }
+    put_kept(kept);
 }
 
 // One fault, or two.
-fn put_faults(first: usize, second: usize) {
+pub fn put_faults(first: usize, second: usize) {
     io::print_decimal(STDOUT_FILENO, first as u64);
     if first != second {
         io::write_all(STDOUT_FILENO, b" and ");
@@ -231,6 +229,13 @@ pub fn faults() {
     }
 }
 
+fn put_pair(pair: Pair) {
+    put(b" (", pair.detection);
+    put(b",", pair.global_id as usize);
+    put(b",", pair.pass as usize);
+    io::write_all(STDOUT_FILENO, b")");
+}
+
 // What step 2 answered: refusal, records in the table, records opened, and the pairs listed.
 fn show(name: &[u8], r: by_value::Listed) {
     let answer = r.answer;
@@ -239,24 +244,14 @@ fn show(name: &[u8], r: by_value::Listed) {
     let list = r.pairs;
     io::write_all(STDOUT_FILENO, b"step 2, ");
     io::write_all(STDOUT_FILENO, name);
-    io::write_all(STDOUT_FILENO, b": ");
-    io::print_decimal(STDOUT_FILENO, answer.refusal as u64);
-    io::write_all(STDOUT_FILENO, b", records ");
-    io::print_decimal(STDOUT_FILENO, counts.records as u64);
-    io::write_all(STDOUT_FILENO, b", opened ");
-    io::print_decimal(STDOUT_FILENO, counts.opened as u64);
+    put(b": ", answer.refusal as usize);
+    put(b", records ", counts.records);
+    put(b", opened ", counts.opened as usize);
     io::write_all(STDOUT_FILENO, b", pairs");
     let mut i = 0;
     while i < 40 {
         if i < answer.count {
-            let pair = list[i];
-            io::write_all(STDOUT_FILENO, b" (");
-            io::print_decimal(STDOUT_FILENO, pair.detection as u64);
-            io::write_all(STDOUT_FILENO, b",");
-            io::print_decimal(STDOUT_FILENO, pair.global_id as u64);
-            io::write_all(STDOUT_FILENO, b",");
-            io::print_decimal(STDOUT_FILENO, pair.pass as u64);
-            io::write_all(STDOUT_FILENO, b")");
+            put_pair(list[i]);
         }
         i += 1;
     }
@@ -328,20 +323,25 @@ fn few_and_many() {
     show(b"32 detections", second);
 }
 
-// A full table from which step 1 drops one record has room for one at once.
-fn freed_by_a_drop() {
-    let mut storage = [0.25; 30];
-    let fresh = tracker::new(good(), &storage).table;
-    let full = holding(fresh, 2, Phase::Predict);
-    let mut records = full.records;
+// The table whose first record has run out of hits.
+fn dying(t: Table) -> Table {
+    let mut records = t.records;
     let mut o = records[0];
     let mut life = o.life;
     life.hit_counter = -1;
     o.life = life;
     records[0] = o;
-    let mut t = full;
-    t.records = records;
-    let stepped = tracker::predict(t, &mut storage).table;
+    let mut next = t;
+    next.records = records;
+    next
+}
+
+// A full table from which step 1 drops one record has room for one at once.
+fn freed_by_a_drop() {
+    let mut storage = [0.25; 30];
+    let fresh = tracker::new(good(), &storage).table;
+    let full = holding(fresh, 2, Phase::Predict);
+    let stepped = tracker::predict(dying(full), &mut storage).table;
     let points = [1.0; 4];
     let scores = [1.0; 2];
     let has_scores = [0u8; 2];

@@ -4,8 +4,8 @@ pub mod Passing
 pub mod Names
 pub mod Facts
 pub mod Due
-pub mod Marked
 pub mod MakingLaws
 pub mod SlotLaws
 pub mod Ranged
+pub mod Moving
 pub mod Reading

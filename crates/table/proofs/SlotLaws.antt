@@ -1,57 +1,27 @@
 -- The model of a table with its floats: slots put back in their places are found there again.
 use mathlib.Core.Path.{_≡_, refl, sym, _∙_, ap}
 use mathlib.Core.Logic.{⊎-elim}
-use mathlib.Core.Bool.{Bool, true, false, cond}
 use mathlib.Core.List.{List, [], _∷_, _++_, map, map-append, append-assoc, append-nil}
 use Prim.Native.Nat.{ℕ, zero, suc, _+_, _*_, _<_, _≤_}
-use native.Mathlib.Nat.{zero-mul, suc-mul, mul-le-mul-right, le-of-suc-le-suc, eq-or-lt-of-le}
+use native.Mathlib.Nat.{zero-mul, suc-mul, mul-le-mul-right, le-trans, le-of-suc-le-suc, eq-or-lt-of-le}
 use native.Mathlib.Omega.{arith}
 use lib.Ieee.{Float}
-use lib.ListN.{length, getD, set, take, drop, length-append, length-map, length-drop, length-set, take-append-drop, List·getD-append, List·getD-map}
-use lib.Seq.{paste, length-take-le, take-suc, take-add, take-nil, take-at, take-all, drop-nil, drop-cons, drop-append-add, drop-append-le, take-append-add, getD-at, getD-take, set-append-left, set-split, ext-getD}
-use Rattle.laws.specs.Lists.{keep}
+use lib.ListN.{length, getD, set, take, drop, length-append, length-map, length-set, take-append-drop, List·getD-append, List·getD-map}
+use lib.Seq.{paste, take-suc, take-add, take-nil, take-at, take-all, drop-nil, drop-cons, drop-append-add, drop-append-le, take-append-add, getD-at, getD-take, set-append-left, set-split, ext-getD}
+use Rattle.laws.specs.Lists.{below}
 use Rattle.laws.proofs.Elements.{getD-any}
+use Rattle.laws.proofs.Every.{Every, none, one, every-at, every-map, every-below}
 use Rattle.laws.proofs.Growing.{length-snoc}
 use Rattle.laws.proofs.Fronts.{front-length, front-behind, front-getD-behind, front-set, front-put, front-paste, drop-take, take-fewer}
 use Rattle.laws.proofs.Mapped.{map-set}
+use Rattle.laws.proofs.Pasting.{length-part}
 use Rattle.parts.specs.declared.TrackedObject.{TrackedObject}
 use Rattle.table.specs.Making.{zeroObject}
 use Rattle.table.specs.Slots.{Slot, slots, objectsOf, blocksOf, recordsBack, floatsBack, nameOf, names}
 
 -- every block has b floats
-pub data Sized (b : ℕ) : List Slot → Type 0 where
-  none : Sized b []
-  one : {s : Slot} {l : List Slot} → length (s .block) ≡ b → Sized b l → Sized b (s ∷ l)
-
--- ---- what keeps the sizes
-
-pub sized-append : {b : ℕ} {l m : List Slot} → Sized b l → Sized b m → Sized b (l ++ m)
-sized-append none t = t
-sized-append (one h r) t = one h (sized-append r t)
-
-pub sized-set : {b : ℕ} {l : List Slot} (i : ℕ) (y : Slot) → Sized b l → length (y .block) ≡ b → Sized b (set l i y)
-sized-set i y none e = none
-sized-set zero y (one h r) e = one e r
-sized-set (suc i) y (one h r) e = one h (sized-set i y r e)
-
-pub sized-map : {b : ℕ} {l : List Slot} (f : Slot → Slot) → Sized b l → ((s : Slot) → length (s .block) ≡ b → length (f s .block) ≡ b)
-    → Sized b (map f l)
-sized-map f none same = none
-sized-map f (one {s} h r) same = one (same s h) (sized-map f r same)
-
-kept : {b : ℕ} (s : Slot) (l : List Slot) (t : Bool) → length (s .block) ≡ b → Sized b l → Sized b (cond t (s ∷ l) l)
-kept s l true h r = one h r
-kept s l false h r = r
-
-pub sized-keep : {b : ℕ} {l : List Slot} (p : Slot → Bool) → Sized b l → Sized b (keep p l)
-unfolding keep
-sized-keep p none = none
-sized-keep p (one {s} {l} h r) = kept s (keep p l) (p s) h (sized-keep p r)
-
-pub sized-at : {b : ℕ} {l : List Slot} (i : ℕ) (d : Slot) → Sized b l → i < length l → length (getD l i d .block) ≡ b
-sized-at i d none h = absurd (omega arith)
-sized-at zero d (one e r) h = e
-sized-at (suc i) d (one e r) h = sized-at i d r (le-of-suc-le-suc h)
+abbrev pub Sized : ℕ → List Slot → Type 0
+Sized b l = Every (λ s. length (s .block) ≡ b) l
 
 -- ---- the blocks one behind another
 
@@ -67,7 +37,7 @@ blocks-snoc l y = blocks-append l (y ∷ []) ∙ ap (λ (r : List Float). blocks
 pub blocks-length : {b : ℕ} {l : List Slot} → Sized b l → length (blocksOf l) ≡ length l * b
 unfolding blocksOf
 blocks-length {b = b} none = sym (zero-mul b)
-blocks-length {b = b} (one {s} {l} h r) = omega (arith, length-append (s .block) (blocksOf l), blocks-length r, suc-mul (length l) b)
+blocks-length {b = b} (one {x = s} {l} h r) = omega (arith, length-append (s .block) (blocksOf l), blocks-length r, suc-mul (length l) b)
 
 past-one : {b n : ℕ} (i : ℕ) → n ≡ b → suc i * b ≡ n + i * b
 past-one {b = b} i e = omega (arith, suc-mul i b)
@@ -95,6 +65,9 @@ blocks-set {b = b} {l = l} i y r h e =
 -- a slot's block ends within the blocks
 pub block-fits : (b i n : ℕ) → i < n → i * b + b ≤ n * b
 block-fits b i n h = rw suc-mul at (mul-le-mul-right {m = suc i} {n = n} b h)
+
+pub block-whole : (b n : ℕ) (floats : List Float) → n * b ≤ length floats → (i : ℕ) → i < n → length (take b (drop (i * b) floats)) ≡ b
+block-whole b n floats room i h = length-part floats (i * b) b (le-trans (block-fits b i n h) room)
 
 -- ---- the records put back
 
@@ -145,7 +118,7 @@ module _ {b : ℕ} {l : List Slot} (sized : Sized b l) (floats : List Float) whe
       let rest = drop (length l * b) floats in
       let fits = block-fits b i (length l) h in
       rw (drop-append-le (i * b) (blocksOf l) rest (omega (arith, blocks-length sized)), blocks-drop i sized, drop-cons l i d h, append-assoc)
-      (take-at (getD l i d .block) (blocksOf (drop (suc i) l) ++ rest) b (sized-at i d sized h))
+      (take-at (getD l i d .block) (blocksOf (drop (suc i) l) ++ rest) b (every-at i d sized h))
 
   pub floats-behind : (k : ℕ) → length l * b ≤ k → drop k (floatsBack b l floats) ≡ drop k floats
   floats-behind = front-behind (blocksOf l) (length l * b) floats (blocks-length sized)
@@ -191,12 +164,17 @@ module _ (b : ℕ) (records : List TrackedObject) (floats : List Float) where
       (λ (q : i < n). List·getD-append l (s ∷ []) d i (omega (arith, slots-length n)) ∙ slots-at n i d q)
       (eq-or-lt-of-le (le-of-suc-le-suc h))
 
+  pub slots-mapped : (n : ℕ) → slots b records floats n ≡ map (slotAt b records floats) (below n)
+  unfolding slots below
+  slots-mapped zero = refl
+  slots-mapped (suc n) = rw (slots-mapped n) (sym (map-append (slotAt b records floats) (below n) (n ∷ [])))
+
+  -- what is so at each place
+  pub slots-every : {P : Slot → Type 0} (n : ℕ) → ((i : ℕ) → i < n → P (slotAt b records floats i)) → Every P (slots b records floats n)
+  slots-every n each = rw (slots-mapped n) (every-map (slotAt b records floats) (every-below n each))
+
   pub slots-sized : (n : ℕ) → n * b ≤ length floats → Sized b (slots b records floats n)
-  unfolding slots
-  slots-sized zero h = none
-  slots-sized (suc n) h =
-      let fits : n * b + b ≤ length floats = rw suc-mul at h in
-      sized-append (slots-sized n (omega arith)) (one (length-take-le b (drop (n * b) floats) (omega (arith, length-drop (n * b) floats))) none)
+  slots-sized n h = slots-every n (block-whole b n floats h)
 
   pub slots-objects : (n : ℕ) → n ≤ length records → objectsOf (slots b records floats n) ≡ take n records
   unfolding slots

@@ -4,4 +4,3 @@ pub mod Wholeness
 pub mod Refusals
 pub mod Making
 pub mod Slots
-pub mod Marked

@@ -3,6 +3,7 @@ use mathlib.Core.List.{List, [], _∷_, _++_, map}
 use Prim.Native.Nat.{ℕ, zero, suc, _+_, _*_, _<_}
 use lib.ListN.{length, getD, take, drop}
 use lib.Ieee.{Float}
+use Rattle.laws.specs.Lists.{keep}
 use Rattle.parts.specs.declared.TrackerConfig.{TrackerConfig}
 use Rattle.parts.specs.declared.TrackedObject.{TrackedObject}
 use Rattle.parts.specs.Layout.{blockSize}
@@ -52,6 +53,12 @@ nameOf o = o .origin .«initializing_id»
 abbrev pub names : List Slot → List ℕ
 names l = map (λ s. nameOf (s .object)) l
 
--- who is in a table
+-- who is in a table, and who of them is initializing
+abbrev pub tableObjects : Table → List TrackedObject
+tableObjects t = take (t .counts .records) (t .records)
+
 abbrev pub tableNames : Table → List ℕ
-tableNames t = map nameOf (take (t .counts .records) (t .records))
+tableNames t = map nameOf (tableObjects t)
+
+abbrev pub tableInitializing : Table → List ℕ
+tableInitializing t = map nameOf (keep (λ o. o .life .«is_initializing») (tableObjects t))

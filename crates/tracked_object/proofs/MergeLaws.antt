@@ -19,7 +19,7 @@ use Rattle.parts.specs.declared.PastDetection.{PastDetection}
 use Rattle.parts.specs.declared.ReidCounter.the-variants.{Absent}
 use Rattle.parts.specs.Layout.{coords, width, lastAt, pastAt, blockSize}
 use Rattle.parts.specs.Ranges.{Sizes, ObjectInRange, AgesInRange, unaged}
-use Rattle.tracked_object.specs.Object.{History, history, takes, added, conditionallyAdded, entryOf, historyMerged, taken, merging, objectMerged, blockMerged}
+use Rattle.tracked_object.specs.Object.{History, history, takes, added, conditionallyAdded, markOf, entryOf, historyMerged, taken, merging, objectMerged, blockMerged}
 use Rattle.parts.proofs.PastLaws.{length-pushed, history-elsewhere}
 use Rattle.tracked_object.proofs.AgeLaws.{ages-kept}
 
@@ -96,6 +96,26 @@ module _ (c : TrackerConfig) (sizes : Sizes c) (age : ℕ) (young : age ≤ 2000
       turns-hold (turn c age entries from) (HistoryKept c front) n h
       (λ i g hi. kept-added (getD entries i unaged .«has_scores») (entryOf c from i) g (length-entry c from i whole (omega arith)))
       k
+
+-- what a merge keeps whatever the marks are: a history no longer than the settings allow, and the length of the block
+module _ (c : TrackerConfig) (candidate : TrackedObject) (from : List Float) (o : TrackedObject) (l : List Float) where
+  abbrev Long : History → Type 0
+  Long h = (h .count ≤ c .«past_detections_length») × (length (h .floats) ≡ blockSize c)
+
+  pub merging-long : candidate .«past_count» ≤ c .«past_detections_length» → o .«past_count» ≤ c .«past_detections_length»
+      → length from ≡ blockSize c → length l ≡ blockSize c → Long (merging c candidate from o l)
+  unfolding historyMerged conditionallyAdded
+  merging-long few full of on =
+      let most = c .«past_detections_length» in
+      let filtered = length-paste l 0 from (5 * coords c) (omega arith) (omega arith) in
+      let behind = length-drop (lastAt c) from in
+      turns-hold (turn c (o .life .age) (candidate .past) from) Long (candidate .«past_count») _
+      (λ i h lt k.
+      let entry = length-entry c from i of (omega arith) in
+      chosen Long (takes c (o .life .age) (h .marks) (h .count)) (added c (o .life .age) (markOf candidate i) (entryOf c from i) h) h
+      (λ t. (omega arith, length-pushed most (width c) (pastAt c) (h .count) (h .floats) (some-of most _ t) (k .0) (omega arith) (entryOf c from i) entry ∙ k .1))
+      k)
+      (full, length-paste (paste l 0 from (5 * coords c)) (lastAt c) (drop (lastAt c) from) (width c) (omega arith) (omega arith) ∙ filtered ∙ on)
 
 -- ---- the record: who it is stays, what was seen of it last is the candidate's
 

@@ -16,7 +16,7 @@ use Rattle.pairs.specs.declared.Pair.{Pair}
 use Rattle.passes.specs.Checks.{Frame}
 use Rattle.matching_step.specs.Step.{matchRefusal, listedPairs, matchedFloats}
 use Rattle.tracker.specs.declared.Count.{Count}
-use Rattle.tracker.specs.Calls.{predictRefusal, predictAnswer, predictStorage, matchAnswer, matchPairs, totalAnswer, currentAnswer}
+use Rattle.tracker.specs.Calls.{predictRefusal, predictAnswer, predictStorage, matchAnswer, matchPairs, reidRefusal, listedActive, reidAnswer, reidStorage, reidActive, totalAnswer, currentAnswer}
 
 -- ---- the statements, as the contracts have them
 
@@ -28,6 +28,9 @@ PredictSays t s a s′ = (a ≡ predictAnswer t s) × (s′ ≡ predictStorage t
 
 abbrev pub MatchSays : Table → List Float → ℕ → Frame → List Pair → Answer → List Float → List Pair → Type 0
 MatchSays t s n f l a s′ l′ = (a ≡ matchAnswer t s n f (length l)) × (s′ ≡ matchedFloats t s n f (length l)) × (l′ ≡ matchPairs t s n f l)
+
+abbrev pub ReidSays : Table → List Float → List Float → List ℕ → Answer → List Float → List ℕ → Type 0
+ReidSays t s d l a s′ l′ = (a ≡ reidAnswer t s d (length l)) × (s′ ≡ reidStorage t s d (length l)) × (l′ ≡ reidActive t s d l)
 
 abbrev pub TotalSays : Table → Count → Type 0
 TotalSays t n = n ≡ totalAnswer t
@@ -47,6 +50,10 @@ predict-determined t s a b s₁ s₂ p q = (p .0 ∙ sym (q .0), p .1 ∙ sym (q
 pub match-determined : (t : Table) (s : List Float) (n : ℕ) (f : Frame) (l : List Pair) (a b : Answer) (s₁ s₂ : List Float) (l₁ l₂ : List Pair)
     → MatchSays t s n f l a s₁ l₁ → MatchSays t s n f l b s₂ l₂ → (a ≡ b) × (s₁ ≡ s₂) × (l₁ ≡ l₂)
 match-determined t s n f l a b s₁ s₂ l₁ l₂ p q = (p .0 ∙ sym (q .0), p .1 ∙ sym (q .1), p .2 ∙ sym (q .2))
+
+pub reid-determined : (t : Table) (s d : List Float) (l : List ℕ) (a b : Answer) (s₁ s₂ : List Float) (l₁ l₂ : List ℕ)
+    → ReidSays t s d l a s₁ l₁ → ReidSays t s d l b s₂ l₂ → (a ≡ b) × (s₁ ≡ s₂) × (l₁ ≡ l₂)
+reid-determined t s d l a b s₁ s₂ l₁ l₂ p q = (p .0 ∙ sym (q .0), p .1 ∙ sym (q .1), p .2 ∙ sym (q .2))
 
 pub total-determined : (t : Table) (m n : Count) → TotalSays t m → TotalSays t n → m ≡ n
 total-determined t m n p q = p ∙ sym q
@@ -77,3 +84,20 @@ pub rest-of-pairs : (t : Table) (s : List Float) (n : ℕ) (f : Frame) (l : List
     drop count (matchPairs t s n f l) ≡ drop count l
 unfolding matchAnswer matchPairs
 rest-of-pairs t s n f l = drop-append-seam (listedPairs t s n f (length l)) (drop (length (listedPairs t s n f (length l))) l)
+
+-- ---- a refused step 3 returns the table, the count 0, and leaves the storage and the active list
+
+pub reid-refused : (t : Table) (s d : List Float) (l : List ℕ) → (reidRefusal t s d (length l) ≡ 0 → ⊥) →
+    let a = reidAnswer t s d (length l) in
+    (a .table ≡ t) × (a .count ≡ 0) × (reidStorage t s d (length l) ≡ s) × (reidActive t s d l ≡ l)
+unfolding reidAnswer reidStorage reidActive
+reid-refused t s d l refused =
+    let e = ne-eqb (reidRefusal t s d (length l)) 0 refused in
+    (rw e, rw e, rw e, rw e)
+
+-- an accepted one writes no more of the active list than the entries that it counts
+pub rest-of-active : (t : Table) (s d : List Float) (l : List ℕ) →
+    let count = reidAnswer t s d (length l) .count in
+    drop count (reidActive t s d l) ≡ drop count l
+unfolding reidAnswer reidActive
+rest-of-active t s d l = drop-append-seam (listedActive t s d (length l)) (drop (length (listedActive t s d (length l))) l)

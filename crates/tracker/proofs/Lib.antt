@@ -3,3 +3,4 @@ pub mod Readiness
 pub mod Listing
 pub mod Passed
 pub mod Determined
+pub mod Marked

@@ -1,14 +1,10 @@
 -- Rules 11 to 13, 64, 70 and 71: each public call's answer and what it leaves in the storage, refusals among the cases.
-use mathlib.Core.Bool.{Bool, not, _&&_, cond}
-use mathlib.Core.List.{List, _++_}
+use mathlib.Core.Bool.{Bool, cond}
+use mathlib.Core.List.{List, [], _++_}
 use Prim.Native.Nat.{ℕ, _-_}
 use lib.Dec.{eqb}
-use lib.IntN.{pos}
-use lib.ListN.{length, take, drop}
-use lib.Signed.{leZ}
+use lib.ListN.{length, drop}
 use lib.Ieee.{Float}
-use Rattle.laws.specs.Lists.{keep}
-use Rattle.parts.specs.declared.TrackedObject.{TrackedObject}
 use Rattle.table.specs.declared.Table.{Table}
 use Rattle.table.specs.declared.Answer.{Answer}
 use Rattle.table.specs.Making.{answerOf}
@@ -17,6 +13,7 @@ use Rattle.pairs.specs.declared.Pair.{Pair}
 use Rattle.passes.specs.Checks.{Frame}
 use Rattle.matching_step.specs.declared.Matched.{Matched}
 use Rattle.matching_step.specs.Step.{matchRefusal, accepted, listedPairs, matchTable}
+use Rattle.reid.specs.Step.{reidChecks, reidTable, reidFloats, activeOf, activeIds}
 use Rattle.predict.specs.Step.{predictTable, predictFloats}
 use Rattle.tracker.specs.declared.Count.{Count}
 
@@ -50,6 +47,35 @@ matchPairs t s detections f list =
     let l = listedPairs t s detections f (length list) in
     l ++ drop (length l) list
 
+-- ---- step 3: the active are listed in front, the rest of the list is untouched
+
+abbrev pub reidRefusal : Table → List Float → List Float → ℕ → ℕ
+reidRefusal t s distances places = firstDue (reidChecks t (length s) (length distances) places)
+
+abbrev pub reidAccepted : Table → List Float → List Float → ℕ → Bool
+reidAccepted t s distances places = eqb (reidRefusal t s distances places) 0
+
+abbrev pub listedActive : Table → List Float → List Float → ℕ → List ℕ
+listedActive t s distances places =
+    let after = reidTable t s distances in
+    cond (reidAccepted t s distances places) (activeIds (after .counts .records) (after .records)) []
+
+unfoldable pub reidAnswer : Table → List Float → List Float → ℕ → Answer
+reidAnswer t s distances places =
+    record {
+      refusal = reidRefusal t s distances places;
+      count = length (listedActive t s distances places);
+      table = cond (reidAccepted t s distances places) (reidTable t s distances) t;
+    }
+
+unfoldable pub reidStorage : Table → List Float → List Float → ℕ → List Float
+reidStorage t s distances places = cond (reidAccepted t s distances places) (reidFloats t s distances) s
+
+unfoldable pub reidActive : Table → List Float → List Float → List ℕ → List ℕ
+reidActive t s distances list =
+    let l = listedActive t s distances (length list) in
+    l ++ drop (length l) list
+
 -- ---- counts
 
 abbrev pub countOf : ℕ → ℕ → Count
@@ -58,13 +84,6 @@ countOf refusal n = record { refusal = refusal; count = cond (eqb refusal 0) n 0
 -- the total is the permanent counter less 1
 unfoldable pub totalAnswer : Table → Count
 totalAnswer t = countOf (firstDue (countChecks t)) (t .counts .permanent - 1)
-
--- active: not initializing, hit counter at least 0
-abbrev pub active : TrackedObject → Bool
-active o = not (o .life .«is_initializing») && leZ (pos 0) (o .life .«hit_counter»)
-
-abbrev pub activeOf : ℕ → List TrackedObject → List TrackedObject
-activeOf n records = keep active (take n records)
 
 unfoldable pub currentAnswer : Table → Count
 currentAnswer t = countOf (firstDue (countChecks t)) (length (activeOf (t .counts .records) (t .records)))

@@ -1,2 +1,3 @@
 -- What the public calls answer.
 pub mod Calls
+pub mod Marked

@@ -5,7 +5,8 @@ ghost use lib.ListN.{length};
 ghost use Rattle.table.specs.Making.{made};
 ghost use Rattle.passes.specs.Checks.{frame};
 ghost use Rattle.matching_step.specs.Step.{matchedFloats};
-ghost use Rattle.tracker.specs.Calls.{answerFrom, predictAnswer, predictStorage, matchAnswer, matchPairs, totalAnswer, currentAnswer, active, activeOf};
+ghost use Rattle.tracker.specs.Calls.{answerFrom, predictAnswer, predictStorage, matchAnswer, matchPairs, reidAnswer, reidStorage, reidActive, totalAnswer, currentAnswer};
+pub use filter::FilterSettings;
 pub use pairs::Pair;
 pub use parts::ReidCounter;
 pub use parts::TrackerConfig;
@@ -38,11 +39,11 @@ pub fn predict(t: Table, storage: &mut [f64]) -> Answer
             table: t,
         };
     }
-    let table = predict::predict_table(t, storage);
+    let stepped = predict::predict_table(t, storage);
     Answer {
         refusal,
         count: 0,
-        table,
+        table: stepped,
     }
 }
 
@@ -75,6 +76,31 @@ pub fn match_detections(
     );
     pairs::put_pairs(pairs, m.pairs, m.count);
     answer_of(m)
+}
+
+// Step 3: ReID and the active list; or refusal 5, 4, 6, 10 or 11 and nothing changed.
+pub fn reid(t: Table, storage: &mut [f64], distances: &[f64], active: &mut [u32]) -> Answer
+    ensures { λ r. ⌜ r ≡ reidAnswer t (now (storage .entry)) (now (distances .entry)) (length (now (active .entry))) ⌝ }
+    ensures { λ _. ⌜ now (storage .exit) ≡ reidStorage t (now (storage .entry)) (now (distances .entry)) (length (now (active .entry))) ⌝ }
+    ensures { λ _. ⌜ now (active .exit) ≡ reidActive t (now (storage .entry)) (now (distances .entry)) (now (active .entry)) ⌝ }
+{
+    let refusal = reid::checks::reid_refusal(t, storage.len(), distances.len(), active.len());
+    if refusal != 0 {
+        return Answer {
+            refusal,
+            count: 0,
+            table: t,
+        };
+    }
+    let merged = reid::reid_table(t, storage, distances);
+    let counts = merged.counts;
+    let records = merged.records;
+    let count = reid::active::list_active(records, counts.records, active);
+    Answer {
+        refusal,
+        count,
+        table: merged,
+    }
 }
 
 // The answer without the pairs.
@@ -120,31 +146,6 @@ pub fn current_object_count(t: Table) -> Count
     }
     Count {
         refusal: 0,
-        count: active_count(records, counts.records),
+        count: reid::active::active_count(records, counts.records),
     }
-}
-
-// Not initializing, hit counter at least 0.
-fn is_active(o: parts::TrackedObject) -> bool
-    ensures { λ r. ⌜ r ≡ active o ⌝ }
-{
-    let life = o.life;
-    laws::both(!life.is_initializing, 0 <= life.hit_counter)
-}
-
-// How many of the first n records are active.
-fn active_count(records: [parts::TrackedObject; 64], n: usize) -> usize
-    requires { ⌜ n ≤ 64 ⌝ }
-    ensures { λ r. ⌜ r ≡ length (activeOf n records) ⌝ }
-{
-    let mut count = 0;
-    let mut i = 0;
-    while i < n {
-        let o = records[i];
-        if is_active(o) {
-            count += 1;
-        }
-        i += 1;
-    }
-    count
 }

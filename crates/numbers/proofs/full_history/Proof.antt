@@ -68,8 +68,8 @@ slice-aggregate-write-all c = search needs
 write-all-requires : tie.Need-write-all-requires
 write-all-requires c κs = search needs
 
-put-age-requires : tie.Need-put-age-requires
-put-age-requires c κs = search needs
+put-or-none-requires : tie.Need-put-or-none-requires
+put-or-none-requires c κs = search needs
 
 slice-aggregate-write-all-2 : tie.Need-slice-aggregate-write-all-2
 slice-aggregate-write-all-2 c = search needs
@@ -89,8 +89,8 @@ write-all-requires-3 c κs = search needs
 array-copy-out-now : tie.Need-array-copy-out-now
 array-copy-out-now c = search needs
 
-put-age-requires-2 : tie.Need-put-age-requires-2
-put-age-requires-2 c κs = search needs
+put-or-none-requires-2 : tie.Need-put-or-none-requires-2
+put-or-none-requires-2 c κs = search needs
 
 array-copy-out-newest : tie.Need-array-copy-out-newest
 array-copy-out-newest c = search needs
@@ -101,8 +101,8 @@ slice-aggregate-write-all-4 c = search needs
 write-all-requires-4 : tie.Need-write-all-requires-4
 write-all-requires-4 c κs = search needs
 
-put-age-requires-3 : tie.Need-put-age-requires-3
-put-age-requires-3 c κs = search needs
+put-or-none-requires-3 : tie.Need-put-or-none-requires-3
+put-or-none-requires-3 c κs = search needs
 
 slice-aggregate-write-all-5 : tie.Need-slice-aggregate-write-all-5
 slice-aggregate-write-all-5 c = search needs
@@ -124,18 +124,18 @@ full-history-spec =
     conditionally-add-to-past-detections-requires
     slice-aggregate-write-all
     write-all-requires
-    put-age-requires
+    put-or-none-requires
     slice-aggregate-write-all-2
     write-all-requires-2
     print-decimal-requires
     slice-aggregate-write-all-3
     write-all-requires-3
     array-copy-out-now
-    put-age-requires-2
+    put-or-none-requires-2
     array-copy-out-newest
     slice-aggregate-write-all-4
     write-all-requires-4
-    put-age-requires-3
+    put-or-none-requires-3
     slice-aggregate-write-all-5
     write-all-requires-5
     returns)

@@ -1,6 +1,7 @@
 -- `predict::drop_gone` meets its contract: in front stand the records below i that stay, with their blocks, and behind them what was there.
 use mathlib.Core.Path.{_≡_, refl, sym, _∙_, ap}
-use Prim.Native.Nat.{suc, _≤_, _-_}
+use mathlib.Core.Bool.{not}
+use Prim.Native.Nat.{suc, _≤_, _-_, _*_}
 use native.Mathlib.Nat.{zero-mul, mul-le-mul-right, le-trans}
 use native.Mathlib.Omega.{arith}
 use native.Mathlib.Numerals.{add-one}
@@ -8,21 +9,22 @@ use borrow.Author.Needs.{needs}
 use lib.ListN.{length, getD}
 use Rattle.parts.specs.declared.block.Layout.{Layout}
 use Rattle.parts.specs.Layout.{blockSize}
-use Rattle.laws.specs.Lists.{keep}
+use Rattle.laws.specs.Lists.{below, keep}
 use Rattle.table.specs.Making.{zeroObject}
-use Rattle.table.specs.Slots.{slots, blocksOf, recordsBack, floatsBack}
-use Rattle.predict.specs.Step.{gone, keptOf}
-use Rattle.predict.proofs.Dropping.{Room, room, kept-length, gone-turn, one-more, record-moved, block-moved}
+use Rattle.table.specs.Slots.{blocksOf, recordsBack, floatsBack}
+use Rattle.table.proofs.Moving.{Room, movedDown, moved-length, by-size, room, leaves, one-more, record-moved, block-moved}
 use Rattle.table.proofs.Reading.{blank, read}
+use Rattle.predict.specs.Step.{gone}
+use Rattle.predict.proofs.Dropping.{staysAt, as-kept}
 use Rattle.predict.proofs.drop_gone.Statement.{statement}
 use Rattle.predict.proofs.drop_gone.Tie as tie
 
 abbrev Inv-loop : tie.InvT-loop
 Inv-loop config n s₀ records size kept₀ k₀ i₀ s kept k i =
     (i ≤ n)
-    × (k ≡ length (keptOf config i records s₀))
-    × (kept ≡ recordsBack (keptOf config i records s₀) records)
-    × (s ≡ floatsBack (blockSize config) (keptOf config i records s₀) s₀)
+    × (k ≡ length (movedDown (staysAt config records) size records s₀ i))
+    × (kept ≡ recordsBack (movedDown (staysAt config records) size records s₀ i) records)
+    × (s ≡ floatsBack size (movedDown (staysAt config records) size records s₀ i) s₀)
 
 abbrev μ-loop : tie.MeasureT-loop
 μ-loop config n s₀ records size kept₀ k₀ i₀ s kept k i = n - i
@@ -34,7 +36,7 @@ layout-of-requires : tie.Need-layout-of-requires Inv-loop μ-loop
 layout-of-requires c κs = search needs
 
 loop-holds : tie.Need-loop-holds Inv-loop μ-loop
-unfolding keep slots blocksOf
+unfolding below keep blocksOf
 loop-holds c = (search needs, refl, refl, rw zero-mul)
 
 mul-o : tie.Need-mul-o Inv-loop μ-loop
@@ -68,18 +70,22 @@ loop-again : tie.Need-loop-again Inv-loop μ-loop
 loop-again c =
     let l = c .before .before .before .before in
     let a = given l .args in
-    let e = gone-turn (a .config) (a .t2) (a .s .now) (l .loop .i) (sym (answered (c .before)) ∙ c .if1 .taken) in
+    let size = l .before .layout-of .result .size in
+    let e = leaves (staysAt (a .config) (a .t2)) size (a .t2) (a .s .now) (l .loop .i) (ap not (sym (answered (c .before)) ∙ c .if1 .taken)) in
     (search needs, rw (add-one, e) (l .loop .inv .1), rw (add-one, e) (l .loop .inv .2), rw (add-one, e) (l .loop .inv .3))
 
 abbrev size-of : (l : tie.At-loop Inv-loop μ-loop) → l .before .layout-of .result .size ≡ blockSize (given l .args .config)
 size-of l = ap (λ (r : Layout). r .size) (l .before .layout-of .ensures)
+
+whole : (l : tie.At-loop Inv-loop μ-loop) → given l .args .n * l .before .layout-of .result .size ≤ length (given l .args .s .now)
+whole l = by-size (given l .args .n) (length (given l .args .s .now)) (size-of l) (given l .pre .2)
 
 space : (c : tie.In-loop Inv-loop μ-loop)
     → let l = c .before in Room (l .before .layout-of .result .size) (given l .args .s .now) (l .loop .s) (l .loop .i) (l .loop .k)
 space c =
     let l = c .before in
     let a = given l .args in
-    room (a .config) (a .t2) (a .s .now) (l .loop .i) (size-of l) (c .loop-test .taken) (given l .pre .2) (l .loop .inv .1) (l .loop .inv .3)
+    room (staysAt (a .config) (a .t2)) (l .before .layout-of .result .size) (a .t2) (a .s .now) (l .loop .i) (c .loop-test .taken) (whole l) (l .loop .inv .1) (l .loop .inv .3)
 
 mul-kept : tie.Need-mul-kept Inv-loop μ-loop
 mul-kept c = let h = space (c .before .before .before) in record { fits = omega arith }
@@ -113,24 +119,29 @@ loop-again-2 c =
     let t = moved .before .before .before .before .before in
     let l = t .before in
     let a = given l .args in
-    let stays = sym (answered (moved .before .before .before)) ∙ moved .before .before .if1 .left in
+    let size = l .before .layout-of .result .size in
+    let p = staysAt (a .config) (a .t2) in
+    let stay = ap not (sym (answered (moved .before .before .before)) ∙ moved .before .before .if1 .left) in
     let all : length (a .t2) ≡ 64 = given l .good .1 .0 .1 .0 .1 in (
       search needs,
-      rw (add-one (l .loop .k), add-one (l .loop .i), one-more (a .config) (a .t2) (a .s .now) (l .loop .i) stays) (ap suc (l .loop .inv .1)),
-      rw add-one (record-moved (a .config) (a .t2) (a .s .now) (l .loop .i) stays (omega arith) (l .loop .inv .1) (l .loop .inv .2) (here t)),
-      rw add-one (block-moved (a .config) (a .t2) (a .s .now) (l .loop .i) stays (size-of l) (space t) (l .loop .inv .1) (l .loop .inv .3) (moved .move-down .ensures)),
+      rw (add-one (l .loop .k), add-one (l .loop .i), one-more p size (a .t2) (a .s .now) (l .loop .i) stay) (ap suc (l .loop .inv .1)),
+      rw add-one (record-moved p size (a .t2) (a .s .now) (l .loop .i) stay (omega arith) (l .loop .inv .1) (l .loop .inv .2) (here t)),
+      rw add-one (block-moved p size (a .t2) (a .s .now) (l .loop .i) stay (space t) (l .loop .inv .1) (l .loop .inv .3) (moved .move-down .ensures)),
     )
 
 same-length : tie.Need-same-length Inv-loop μ-loop
 same-length c =
-    let a = given (c .before) .args in
-    let whole = le-trans (mul-le-mul-right (blockSize (a .config)) (c .before .loop .inv .0)) (given (c .before) .pre .2) in
-    rw (c .before .loop .inv .3) (kept-length (a .config) (a .t2) (a .s .now) (c .before .loop .i) whole)
+    let l = c .before in
+    let a = given l .args in
+    let size = l .before .layout-of .result .size in
+    let front = le-trans (mul-le-mul-right size (l .loop .inv .0)) (whole l) in
+    rw (l .loop .inv .3) (moved-length (staysAt (a .config) (a .t2)) size (a .t2) (a .s .now) (l .loop .i) front)
 
 returns : tie.Need-returns Inv-loop μ-loop
 returns c =
-    let e : c .before .loop .i ≡ given (c .before) .args .n = omega arith in
-    (rw (c .before .loop .inv .1, c .before .loop .inv .2, e), rw e at (c .before .loop .inv .3))
+    let l = c .before in
+    let a = given l .args in
+    as-kept (a .config) (a .t2) (a .s .now) (a .n) (size-of l) (omega arith) (l .loop .inv .1) (l .loop .inv .2) (l .loop .inv .3)
 
 pub drop-gone-spec : {M : Type 1} → statement M
 drop-gone-spec =

@@ -1,4 +1,4 @@
--- `numbers::frames::frame` is safe and ends: at most 3 fish and 8 records make at most 24 distances, within the array of 32; both calls keep the storage's length.
+-- `numbers::frames::frame` is safe and ends: at most 3 fish and 8 records make at most 24 distances, within the array of 32; the three steps keep the storage's length.
 use mathlib.Core.Path.{_≡_, _∙_, ap}
 use mathlib.Core.Logic.{⊎-elim}
 use Prim.Native.Nat.{ℕ, _-_, _*_, _≤_}
@@ -92,11 +92,17 @@ no-pairs-requires c κs = search needs
 match-detections-requires : tie.Need-match-detections-requires Inv-loop μ-loop
 match-detections-requires c κs = search needs
 
-next-frame-requires : tie.Need-next-frame-requires Inv-loop μ-loop
-next-frame-requires c κs = search needs
+slice-aggregate-reid : tie.Need-slice-aggregate-reid Inv-loop μ-loop
+slice-aggregate-reid c = search needs
+
+slice-aggregate-reid-2 : tie.Need-slice-aggregate-reid-2 Inv-loop μ-loop
+slice-aggregate-reid-2 c = search needs
+
+reid-requires : tie.Need-reid-requires Inv-loop μ-loop
+reid-requires c κs = search needs
 
 same-length-3 : tie.Need-same-length-3 Inv-loop μ-loop
-same-length-3 c = c .before .before .before .before .before .match-detections .kept .1 .0 ∙ c .before .before .before .before .before .before .before .before .before .before .before .before .before .before .before .before .before .before .before .before .predict .kept .1 .0
+same-length-3 c = c .before .before .before .before .reid .kept .1 .0 ∙ c .before .before .before .before .before .before .before .before .before .before .before .before .match-detections .kept .1 .0 ∙ c .before .before .before .before .before .before .before .before .before .before .before .before .before .before .before .before .before .before .before .before .before .before .before .before .before .before .before .predict .kept .1 .0
 
 returns-3 : tie.Need-returns-3 Inv-loop μ-loop
 returns-3 c = search needs
@@ -131,6 +137,8 @@ frame-spec =
     slice-aggregate-match-detections-4
     no-pairs-requires
     match-detections-requires
-    next-frame-requires
+    slice-aggregate-reid
+    slice-aggregate-reid-2
+    reid-requires
     same-length-3
     returns-3)

@@ -91,23 +91,11 @@ both-requires c κs = search needs
 both-requires-2 : tie.Need-both-requires-2
 both-requires-2 c κs = search needs
 
-slice-aggregate-write-all : tie.Need-slice-aggregate-write-all
-slice-aggregate-write-all c = search needs
-
-write-all-requires : tie.Need-write-all-requires
-write-all-requires c κs = search needs
-
-slice-aggregate-write-all-2 : tie.Need-slice-aggregate-write-all-2
-slice-aggregate-write-all-2 c = search needs
-
-write-all-requires-2 : tie.Need-write-all-requires-2
-write-all-requires-2 c κs = search needs
+put-kept-requires : tie.Need-put-kept-requires
+put-kept-requires c κs = search needs
 
 returns-5 : tie.Need-returns-5
 returns-5 c = search needs
-
-returns-6 : tie.Need-returns-6
-returns-6 c = search needs
 
 pub run-spec : {M : Type 1} → statement M
 run-spec =
@@ -142,9 +130,5 @@ run-spec =
     same-pairs-requires
     both-requires
     both-requires-2
-    slice-aggregate-write-all
-    write-all-requires
-    slice-aggregate-write-all-2
-    write-all-requires-2
-    returns-5
-    returns-6)
+    put-kept-requires
+    returns-5)

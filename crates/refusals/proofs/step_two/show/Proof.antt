@@ -5,10 +5,10 @@ use Rattle.refusals.proofs.step_two.show.Statement.{statement}
 use Rattle.refusals.proofs.step_two.show.Tie as tie
 
 abbrev Inv-loop : tie.InvT-loop
-Inv-loop name answer list i₀ t14 t15 t16 t17 t18 i = Unit {0}
+Inv-loop name answer list i₀ t13 i = Unit {0}
 
 abbrev μ-loop : tie.MeasureT-loop
-μ-loop name answer list i₀ t14 t15 t16 t17 t18 i = 40 - i
+μ-loop name answer list i₀ t13 i = 40 - i
 
 slice-aggregate-write-all : tie.Need-slice-aggregate-write-all Inv-loop μ-loop
 slice-aggregate-write-all c = search needs
@@ -19,92 +19,47 @@ write-all-requires c κs = search needs
 write-all-requires-2 : tie.Need-write-all-requires-2 Inv-loop μ-loop
 write-all-requires-2 c κs = search needs
 
+slice-aggregate-put : tie.Need-slice-aggregate-put Inv-loop μ-loop
+slice-aggregate-put c = search needs
+
+cast-put : tie.Need-cast-put Inv-loop μ-loop
+cast-put c = search needs
+
+put-requires : tie.Need-put-requires Inv-loop μ-loop
+put-requires c κs = search needs
+
+slice-aggregate-put-2 : tie.Need-slice-aggregate-put-2 Inv-loop μ-loop
+slice-aggregate-put-2 c = search needs
+
+put-requires-2 : tie.Need-put-requires-2 Inv-loop μ-loop
+put-requires-2 c κs = search needs
+
+slice-aggregate-put-3 : tie.Need-slice-aggregate-put-3 Inv-loop μ-loop
+slice-aggregate-put-3 c = search needs
+
+cast-put-2 : tie.Need-cast-put-2 Inv-loop μ-loop
+cast-put-2 c = search needs
+
+put-requires-3 : tie.Need-put-requires-3 Inv-loop μ-loop
+put-requires-3 c κs = search needs
+
 slice-aggregate-write-all-2 : tie.Need-slice-aggregate-write-all-2 Inv-loop μ-loop
 slice-aggregate-write-all-2 c = search needs
 
 write-all-requires-3 : tie.Need-write-all-requires-3 Inv-loop μ-loop
 write-all-requires-3 c κs = search needs
 
-cast-print-decimal : tie.Need-cast-print-decimal Inv-loop μ-loop
-cast-print-decimal c = search needs
-
-print-decimal-requires : tie.Need-print-decimal-requires Inv-loop μ-loop
-print-decimal-requires c κs = search needs
-
-slice-aggregate-write-all-3 : tie.Need-slice-aggregate-write-all-3 Inv-loop μ-loop
-slice-aggregate-write-all-3 c = search needs
-
-write-all-requires-4 : tie.Need-write-all-requires-4 Inv-loop μ-loop
-write-all-requires-4 c κs = search needs
-
-print-decimal-requires-2 : tie.Need-print-decimal-requires-2 Inv-loop μ-loop
-print-decimal-requires-2 c κs = search needs
-
-slice-aggregate-write-all-4 : tie.Need-slice-aggregate-write-all-4 Inv-loop μ-loop
-slice-aggregate-write-all-4 c = search needs
-
-write-all-requires-5 : tie.Need-write-all-requires-5 Inv-loop μ-loop
-write-all-requires-5 c κs = search needs
-
-cast-print-decimal-2 : tie.Need-cast-print-decimal-2 Inv-loop μ-loop
-cast-print-decimal-2 c = search needs
-
-print-decimal-requires-3 : tie.Need-print-decimal-requires-3 Inv-loop μ-loop
-print-decimal-requires-3 c κs = search needs
-
-slice-aggregate-write-all-5 : tie.Need-slice-aggregate-write-all-5 Inv-loop μ-loop
-slice-aggregate-write-all-5 c = search needs
-
-write-all-requires-6 : tie.Need-write-all-requires-6 Inv-loop μ-loop
-write-all-requires-6 c κs = search needs
-
 loop-holds : tie.Need-loop-holds Inv-loop μ-loop
 loop-holds c = search needs
 
-mul-pair : tie.Need-mul-pair Inv-loop μ-loop
-mul-pair c = search needs
+mul-put-pair : tie.Need-mul-put-pair Inv-loop μ-loop
+mul-put-pair c = search needs
 
-array-copy-out-pair : tie.Need-array-copy-out-pair Inv-loop μ-loop
-array-copy-out-pair c = search needs
+array-copy-out-put-pair : tie.Need-array-copy-out-put-pair Inv-loop μ-loop
+array-copy-out-put-pair c = search needs
 
-slice-aggregate-write-all-6 : tie.Need-slice-aggregate-write-all-6 Inv-loop μ-loop
-slice-aggregate-write-all-6 c = search needs
-
-write-all-requires-7 : tie.Need-write-all-requires-7 Inv-loop μ-loop
-write-all-requires-7 c κs = search needs
-
-print-decimal-requires-4 : tie.Need-print-decimal-requires-4 Inv-loop μ-loop
-print-decimal-requires-4 c κs = search needs
-
-slice-aggregate-write-all-7 : tie.Need-slice-aggregate-write-all-7 Inv-loop μ-loop
-slice-aggregate-write-all-7 c = search needs
-
-write-all-requires-8 : tie.Need-write-all-requires-8 Inv-loop μ-loop
-write-all-requires-8 c κs = search needs
-
-cast-print-decimal-3 : tie.Need-cast-print-decimal-3 Inv-loop μ-loop
-cast-print-decimal-3 c = search needs
-
-print-decimal-requires-5 : tie.Need-print-decimal-requires-5 Inv-loop μ-loop
-print-decimal-requires-5 c κs = search needs
-
-slice-aggregate-write-all-8 : tie.Need-slice-aggregate-write-all-8 Inv-loop μ-loop
-slice-aggregate-write-all-8 c = search needs
-
-write-all-requires-9 : tie.Need-write-all-requires-9 Inv-loop μ-loop
-write-all-requires-9 c κs = search needs
-
-cast-print-decimal-4 : tie.Need-cast-print-decimal-4 Inv-loop μ-loop
-cast-print-decimal-4 c = search needs
-
-print-decimal-requires-6 : tie.Need-print-decimal-requires-6 Inv-loop μ-loop
-print-decimal-requires-6 c κs = search needs
-
-slice-aggregate-write-all-9 : tie.Need-slice-aggregate-write-all-9 Inv-loop μ-loop
-slice-aggregate-write-all-9 c = search needs
-
-write-all-requires-10 : tie.Need-write-all-requires-10 Inv-loop μ-loop
-write-all-requires-10 c κs = search needs
+put-pair-requires : tie.Need-put-pair-requires Inv-loop μ-loop
+put-pair-requires c κs = search needs
 
 add-i : tie.Need-add-i Inv-loop μ-loop
 add-i c = search needs
@@ -115,11 +70,11 @@ loop-less c = search needs
 loop-again : tie.Need-loop-again Inv-loop μ-loop
 loop-again c = search needs
 
-slice-aggregate-write-all-10 : tie.Need-slice-aggregate-write-all-10 Inv-loop μ-loop
-slice-aggregate-write-all-10 c = search needs
+slice-aggregate-write-all-3 : tie.Need-slice-aggregate-write-all-3 Inv-loop μ-loop
+slice-aggregate-write-all-3 c = search needs
 
-write-all-requires-11 : tie.Need-write-all-requires-11 Inv-loop μ-loop
-write-all-requires-11 c κs = search needs
+write-all-requires-4 : tie.Need-write-all-requires-4 Inv-loop μ-loop
+write-all-requires-4 c κs = search needs
 
 returns : tie.Need-returns Inv-loop μ-loop
 returns c = search needs
@@ -133,38 +88,23 @@ show-spec =
     slice-aggregate-write-all
     write-all-requires
     write-all-requires-2
+    slice-aggregate-put
+    cast-put
+    put-requires
+    slice-aggregate-put-2
+    put-requires-2
+    slice-aggregate-put-3
+    cast-put-2
+    put-requires-3
     slice-aggregate-write-all-2
     write-all-requires-3
-    cast-print-decimal
-    print-decimal-requires
-    slice-aggregate-write-all-3
-    write-all-requires-4
-    print-decimal-requires-2
-    slice-aggregate-write-all-4
-    write-all-requires-5
-    cast-print-decimal-2
-    print-decimal-requires-3
-    slice-aggregate-write-all-5
-    write-all-requires-6
     loop-holds
-    mul-pair
-    array-copy-out-pair
-    slice-aggregate-write-all-6
-    write-all-requires-7
-    print-decimal-requires-4
-    slice-aggregate-write-all-7
-    write-all-requires-8
-    cast-print-decimal-3
-    print-decimal-requires-5
-    slice-aggregate-write-all-8
-    write-all-requires-9
-    cast-print-decimal-4
-    print-decimal-requires-6
-    slice-aggregate-write-all-9
-    write-all-requires-10
+    mul-put-pair
+    array-copy-out-put-pair
+    put-pair-requires
     add-i
     loop-less
     loop-again
-    slice-aggregate-write-all-10
-    write-all-requires-11
+    slice-aggregate-write-all-3
+    write-all-requires-4
     returns)

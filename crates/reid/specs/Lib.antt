@@ -1,0 +1,2 @@
+-- Step 3: ReID and the active list; and its account.
+pub mod Step
