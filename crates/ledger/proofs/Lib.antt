@@ -1,0 +1,23 @@
+-- Demand 3 and the absence of refusal 5, proved: soundness of tables, fair steps, counting, and the theorems.
+pub mod SoundTests
+pub mod SoundCounters
+pub mod SoundRecord
+pub mod SoundChanges
+pub mod SoundLists
+pub mod Sound
+pub mod SoundPredict
+pub mod SoundMatch
+pub mod SoundReid
+pub mod SoundIssued
+pub mod SoundAfter
+pub mod SoundRefusals
+pub mod Entries
+pub mod Weights
+pub mod Fairness
+pub mod Predicted
+pub mod Matched
+pub mod Merged
+pub mod Counted
+pub mod Called
+pub mod Demanded
+pub mod Theorem
