@@ -1,12 +1,12 @@
 -- A fact of every element of a list: of two lists, of one replaced, of those that a test keeps, of what is read off them, of the numbers below a count.
 use mathlib.Core.Path.{_≡_, refl}
-use mathlib.Core.Bool.{Bool, true, false, cond}
+use mathlib.Core.Bool.{Bool, true, false, not, cond}
 use mathlib.Core.List.{List, [], _∷_, _++_, map}
 use Prim.Native.Nat.{ℕ, zero, suc, _<_}
 use native.Mathlib.Nat.{le-of-suc-le-suc}
 use native.Mathlib.Omega.{arith}
-use lib.ListN.{length, getD, set}
-use Rattle.laws.specs.Lists.{below, keep, padded, EachBelow}
+use lib.ListN.{length, getD, set, take, drop}
+use Rattle.laws.specs.Lists.{below, keep, any, padded, EachBelow}
 use Rattle.laws.proofs.Growing.{filled-at}
 
 pub data Every {A : Type 0} (P : A → Type 0) : List A → Type 0 where
@@ -76,3 +76,37 @@ pub each-padded : {limit count : ℕ} (n : ℕ) (l : List ℕ) → length l ≡ 
 each-padded n l e all i h =
     let inside : i < length l = omega arith in
     rw (filled-at n 0 l i 0 inside) (every-at i 0 all inside)
+
+-- what a test finds in none of them
+pub none-found : {A : Type 0} (bad : A → Bool) {l : List A} → Every (λ x. bad x ≡ false) l → not (any bad l) ≡ true
+unfolding any
+none-found bad none = refl
+none-found bad (one p r) = rw p (none-found bad r)
+
+module _ {A : Type 0} {P : A → Type 0} where
+  -- by place, also past the end
+  pub every-first : (n : ℕ) (l : List A) (d : A) → ((i : ℕ) → i < n → P (getD l i d)) → Every P (take n l)
+  every-first zero l d each = none
+  every-first (suc n) [] d each = none
+  every-first (suc n) (x ∷ l) d each = one (each 0 (omega arith)) (every-first n l d (λ i h. each (suc i) (omega arith)))
+
+  pub every-drop : (n : ℕ) {l : List A} → Every P l → Every P (drop n l)
+  every-drop zero r = r
+  every-drop (suc n) none = none
+  every-drop (suc n) (one p r) = every-drop n r
+
+  -- at any place, where past the end stands what has it too
+  pub every-anywhere : {l : List A} (i : ℕ) (d : A) → Every P l → P d → P (getD l i d)
+  every-anywhere i d none q = q
+  every-anywhere zero d (one p r) q = p
+  every-anywhere (suc i) d (one p r) q = every-anywhere i d r q
+
+  -- those kept passed the test
+  pub every-kept : {Q : A → Type 0} (q : A → Bool) {l : List A} → ((x : A) → P x → q x ≡ true → Q x) → Every P l → Every Q (keep q l)
+  unfolding keep
+  every-kept q told none = none
+  every-kept {Q} q told (one {x} {l} p r) = go (q x) refl (every-kept q told r)
+    where
+      go : (b : Bool) → q x ≡ b → Every Q (keep q l) → Every Q (cond b (x ∷ keep q l) (keep q l))
+      go true e rest = one (told x p e) rest
+      go false e rest = rest

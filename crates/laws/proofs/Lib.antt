@@ -15,3 +15,4 @@ pub mod Signed
 pub mod Through
 pub mod Turns
 pub mod Weighing
+pub mod Weights

@@ -15,7 +15,7 @@ use Rattle.table.specs.Slots.{tableInitializing}
 use Rattle.ledger.specs.History.{Entry}
 use Rattle.ledger.specs.Demand.{gather, detectionsOf, recordsOf, All}
 use Rattle.ledger.proofs.Entries.{gather-snoc, all-snoc}
-use Rattle.ledger.proofs.Weights.{run-once}
+use Rattle.laws.proofs.Weights.{run-once}
 use Rattle.ledger.proofs.Fairness.{absorbedNames, Ordered, Fairly}
 
 -- ---- what is read off a list of entries

@@ -18,7 +18,7 @@ use Rattle.table.specs.Slots.{tableInitializing}
 use Rattle.tracker.specs.Calls.{totalAnswer}
 use Rattle.ledger.specs.History.{Call, Entry, Day, dayOf}
 use Rattle.ledger.specs.Demand.{Demand}
-use Rattle.ledger.proofs.Weights.{mark, weight-mark, weight-one, run-once}
+use Rattle.laws.proofs.Weights.{mark, weight-mark, weight-one, run-once}
 use Rattle.ledger.proofs.Counted.{Counted, openedIn, issuedIn}
 use Rattle.ledger.proofs.Called.{Kept, counted}
 

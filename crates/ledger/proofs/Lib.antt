@@ -12,7 +12,6 @@ pub mod SoundIssued
 pub mod SoundAfter
 pub mod SoundRefusals
 pub mod Entries
-pub mod Weights
 pub mod Fairness
 pub mod Predicted
 pub mod Matched
@@ -21,3 +20,4 @@ pub mod Counted
 pub mod Called
 pub mod Demanded
 pub mod Theorem
+pub mod Examples

@@ -20,7 +20,7 @@ use Rattle.matching_step.proofs.PairLaws.{recordAt, places-below, named-by-plac
 use Rattle.laws.proofs.Growing.{take-each}
 use Rattle.ledger.specs.History.{matchedBy}
 use Rattle.ledger.specs.Demand.{detectionsOf, recordsOf}
-use Rattle.ledger.proofs.Weights.{read-below}
+use Rattle.laws.proofs.Weights.{read-below}
 use Rattle.ledger.proofs.Fairness.{Ordered, within, Fairly}
 
 -- three lists in a row

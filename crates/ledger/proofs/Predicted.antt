@@ -29,7 +29,7 @@ use Rattle.predict.proofs.StepLaws.{fair, listed, membership, listed-once, open
 use Rattle.matching_step.proofs.AccountLaws.{initializingNames}
 use Rattle.table.specs.Slots.{tableInitializing}
 use Rattle.table.specs.Slots.{tableObjects}
-use Rattle.ledger.proofs.Weights.{kept-lighter}
+use Rattle.laws.proofs.Weights.{kept-lighter}
 use Rattle.ledger.proofs.Fairness.{Ordered, within, leaving, Fairly, fairly-leaving}
 
 -- ---- who is initializing

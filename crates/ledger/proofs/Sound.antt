@@ -8,7 +8,7 @@ use borrow.Author.Tests.{le-leb, eq-eqb}
 use lib.Ieee.{Float}
 use lib.ListN.{length, take, drop}
 use lib.Seq.{take-at}
-use Rattle.laws.proofs.Every.{Every, none, every-weaker}
+use Rattle.laws.proofs.Every.{Every, none, every-weaker, every-map, every-unmap, none-found}
 use Rattle.parts.specs.declared.TrackedObject.{TrackedObject}
 use Rattle.parts.specs.declared.TrackerConfig.{TrackerConfig}
 use Rattle.parts.specs.Layout.{blockSize}
@@ -20,8 +20,7 @@ use Rattle.table.specs.Wholeness.{settingsWhole, countsWhole, recordWhole, reco
 use Rattle.table.proofs.Facts.{SettingsFacts, settings-facts, settings-whole, CountsFacts}
 use Rattle.table.proofs.MakingLaws.{accepted, accepted-fresh}
 use Rattle.table.proofs.SlotLaws.{objects-length, slots-objects}
-use Rattle.laws.proofs.Every.{every-map, every-unmap}
-use Rattle.ledger.proofs.SoundTests.{_also_, between-whole, none-found}
+use Rattle.ledger.proofs.SoundTests.{_also_, between-whole}
 use Rattle.ledger.proofs.SoundRecord.{SoundRecord, sound-record-whole}
 
 pub record Sound (t : Table) : Type 0 where

@@ -11,7 +11,7 @@ use lib.Ieee.{Float}
 use lib.IntN.{ℤ, pos, negsuc, _+ℤ_}
 use lib.ListN.{length, getD-replicate}
 use lib.Signed.{leZ, ltZ}
-use Rattle.laws.proofs.Every.{none, one, every-append, every-weaker}
+use Rattle.laws.proofs.Every.{none, one, every-append, every-weaker, every-drop}
 use Rattle.laws.proofs.Turns.{turns-hold}
 use Rattle.parts.specs.declared.Life.{Life}
 use Rattle.parts.specs.declared.PastDetection.{PastDetection}
@@ -30,7 +30,6 @@ use Rattle.table.proofs.Chain.{parts}
 use Rattle.table.proofs.Facts.{SettingsFacts}
 use Rattle.predict.specs.Step.{gone}
 use Rattle.ledger.proofs.SoundCounters.{AtMost, most-more, above, fallen-most, raised-least, smaller-most, least-more, counters-raised, counters-cleared, counters-predicted}
-use Rattle.ledger.proofs.SoundTests.{every-drop}
 use Rattle.ledger.proofs.SoundRecord.{Aged, SoundLife, SoundMarks, SoundRecord}
 
 -- ---- the history

@@ -12,7 +12,7 @@ use lib.IntN.{pos}
 use lib.ListN.{length, getD}
 use lib.Signed.{leZ}
 use Rattle.laws.specs.Turns.{through}
-use Rattle.laws.proofs.Every.{none, one, every-append, every-set}
+use Rattle.laws.proofs.Every.{none, one, every-append, every-set, every-map}
 use Rattle.laws.proofs.Through.{through-hold}
 use Rattle.matching.specs.Greedy.{Pick, rowsOf, colsOf}
 use Rattle.matching.proofs.Taken.{taken-at-most, taken-once, past-not-taken}
@@ -31,7 +31,6 @@ use Rattle.passes.proofs.PassLaws.{second-passed, old-once, old-below, old-few}
 use Rattle.matching_step.specs.Step.{State, lentDetection, distanceOf, hitOne, openOne, matrixOf, firstHits, secondHits, toOpen, start, afterFirst, afterSecond, afterOpening, matchTable, matchRefusal}
 use Rattle.matching_step.proofs.AccountLaws.{opened-length, slots-after, frames-stay, records-after, opened-after, initializing-after, global-after, permanent-after, objects-after}
 use Rattle.matching_step.proofs.Readiness.{ready}
-use Rattle.laws.proofs.Every.{every-map}
 use Rattle.ledger.proofs.Sound.{Sound, SoundSlots, sound-settings, sound-fit, sound-slots}
 use Rattle.ledger.proofs.SoundLists.{Distinct, list-whole, empty-whole, lists-whole}
 use Rattle.ledger.proofs.SoundChanges.{sound-hit, sound-opened}

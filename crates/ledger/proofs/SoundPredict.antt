@@ -23,11 +23,10 @@ use Rattle.predict.specs.declared.Sort.the-variants.{Alive, Initializing, Dead}
 use Rattle.predict.specs.Step.{gone, belongs, placesOf, slotPredicted, slotsKept, slotsAfter, predictTable}
 use Rattle.predict.proofs.Dropping.{kept-most}
 use Rattle.predict.proofs.Predicting.{predicted-length}
-use Rattle.laws.proofs.Every.{every-map}
+use Rattle.laws.proofs.Every.{every-map, every-kept}
 use Rattle.ledger.proofs.Sound.{Sound, SoundSlots, sound-settings, sound-fit, sound-most, sound-slots, sound-back}
 use Rattle.ledger.proofs.SoundLists.{Distinct, list-whole, empty-whole, lists-whole}
 use Rattle.ledger.proofs.SoundChanges.{sound-predicted}
-use Rattle.ledger.proofs.SoundTests.{every-kept}
 
 -- of the numbers below n those that pass a test
 kept-distinct : (p : ℕ → Bool) (n : ℕ) → n ≤ 64 → Distinct n (keep p (below n))

@@ -8,7 +8,7 @@ use borrow.Author.Tests.{le-leb, le-ltb}
 use lib.Dec.{ltb}
 use lib.IntN.{pos, negsuc}
 use lib.ListN.{length, take}
-use Rattle.laws.proofs.Every.{Every, every-weaker}
+use Rattle.laws.proofs.Every.{Every, every-weaker, none-found, every-first}
 use Rattle.parts.specs.declared.Life.{Life}
 use Rattle.parts.specs.declared.PastDetection.{PastDetection}
 use Rattle.parts.specs.declared.ReidCounter.{ReidCounter}
@@ -18,7 +18,7 @@ use Rattle.parts.specs.Ranges.{PointsInRange}
 use Rattle.table.specs.Ranges.{signedBetween, reidBetween}
 use Rattle.table.specs.Wholeness.{pointsWhole, agesWhole, recordWhole}
 use Rattle.ledger.proofs.SoundCounters.{AtLeast, AtMost, Counters, most-more, between-is, least-more, counters-low, counters-reid}
-use Rattle.ledger.proofs.SoundTests.{_also_, between-whole, none-found, every-first}
+use Rattle.ledger.proofs.SoundTests.{_also_, between-whole}
 
 -- absent, or not negative and at most the frames begun
 abbrev pub Aged : ℕ → PastDetection → Type 0

@@ -8,7 +8,7 @@ use native.Mathlib.Omega.{arith}
 use lib.Ieee.{Float}
 use lib.ListN.{length, getD, getD-replicate}
 use Rattle.laws.specs.Lists.{holds}
-use Rattle.laws.proofs.Every.{every-weaker, every-set, every-at, every-keep}
+use Rattle.laws.proofs.Every.{every-weaker, every-set, every-at, every-keep, every-map, every-below, every-anywhere}
 use Rattle.laws.proofs.Through.{through-hold}
 use Rattle.matching.specs.Greedy.{Pick, rowsOf}
 use Rattle.parts.specs.declared.TrackerConfig.{TrackerConfig}
@@ -20,12 +20,10 @@ use Rattle.table.proofs.Facts.{SettingsFacts}
 use Rattle.table.proofs.SlotLaws.{records-length}
 use Rattle.reid.specs.Step.{mergeOne, merges, slotsMerged, slotsStaying, reidTable}
 use Rattle.reid.proofs.Composing.{merged-length}
-use Rattle.laws.proofs.Every.{every-map, every-below}
 use Rattle.reid.proofs.StepLaws.{records-fall}
 use Rattle.ledger.proofs.Sound.{Sound, SoundSlots, sound-settings, sound-fit, sound-most, sound-slots, sound-back}
 use Rattle.ledger.proofs.SoundLists.{empty-whole, lists-whole}
 use Rattle.ledger.proofs.SoundChanges.{sound-merged}
-use Rattle.ledger.proofs.SoundTests.{every-anywhere}
 
 module _ (c : TrackerConfig) (facts : SettingsFacts c) (frames : ℕ) where
   -- past the end of the table no point was seen

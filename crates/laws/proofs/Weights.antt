@@ -1,4 +1,4 @@
--- Rule 75: a list that names each number at most as often as it stands below a count weighs no more; what a test keeps weighs no more; a run names each number once.
+-- A list that names each number at most as often as it stands below a count weighs no more; what a test keeps weighs no more; a run names each number once.
 use mathlib.Core.Path.{_≡_, refl, sym, _∙_, ap}
 use mathlib.Core.Bool.{Bool, true, false, not, cond}
 use mathlib.Core.List.{List, [], _∷_, map}
@@ -8,11 +8,10 @@ use native.Mathlib.Omega.{arith}
 use borrow.Author.Tests.{ltb-false, eqb-true, eqb-false, eq-eqb, ne-eqb}
 use lib.Dec.{eqb, ltb}
 use lib.ListN.{length}
 use Rattle.laws.specs.Lists.{below, keep, times, weight}
 use Rattle.laws.proofs.Counting.{times-append, times-keep, times-below, below-once}
 use Rattle.laws.proofs.Every.{Every, none, one}
-use Rattle.laws.proofs.Weighing.{weight-append, load, Run, ended, next}
-use Rattle.laws.proofs.Weighing.{load-cons}
+use Rattle.laws.proofs.Weighing.{weight-append, load, load-cons, Run, ended, next}
 
 -- ---- counts are weights
 
