@@ -6,12 +6,9 @@ use Prim.Native.Nat.{ℕ, zero, suc, _<_}
 use native.Mathlib.Nat.{le-of-suc-le-suc}
 use native.Mathlib.Omega.{arith}
 use lib.ListN.{length, getD, set, take, drop}
+use Rattle.laws.specs.Every.{Every, none, one}
 use Rattle.laws.specs.Lists.{below, keep, any, padded, EachBelow}
 use Rattle.laws.proofs.Growing.{filled-at}
-
-pub data Every {A : Type 0} (P : A → Type 0) : List A → Type 0 where
-  none : Every P []
-  one : {x : A} {l : List A} → P x → Every P l → Every P (x ∷ l)
 
 pub every-append : {A : Type 0} {P : A → Type 0} {l m : List A} → Every P l → Every P m → Every P (l ++ m)
 every-append none s = s

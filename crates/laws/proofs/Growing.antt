@@ -6,7 +6,7 @@ use Prim.Native.Nat.{ℕ, zero, suc, _+_, _-_, _<_, _≤_}
 use native.Mathlib.Omega.{arith}
 use native.Mathlib.Numerals.{add-one}
 use lib.ListN.{length, getD, set, take, replicate, length-append, length-map, length-replicate, List·getD-append}
-use lib.Seq.{set-append-seam, length-take-le, take-suc}
+use lib.Seq.{set-append-seam, take-append-seam, length-take-le, take-suc}
 use Rattle.laws.specs.Lists.{below, keep, filled}
 
 pub length-snoc : {A : Type 0} (l : List A) (x : A) → length (l ++ (x ∷ [])) ≡ suc (length l)
@@ -18,6 +18,10 @@ module _ {A : Type 0} (n : ℕ) (d : A) (l : List A) where
 
   pub filled-at : (i : ℕ) (z : A) → i < length l → getD (filled n d l) i z ≡ getD l i z
   filled-at i z = List·getD-append l (replicate (n - length l) d) z i
+
+  -- the front of the array is the list that was put there
+  pub take-filled : take (length l) (filled n d l) ≡ l
+  take-filled = take-append-seam l (replicate (n - length l) d)
 
   -- what stands behind a list that does not fill the array: one place, then the others
   room : (k : ℕ) (x : A) → n - length l ≡ suc k → set (filled n d l) (length l) x ≡ l ++ (x ∷ replicate k d)

@@ -12,6 +12,7 @@ pub mod Mapped
 pub mod Pasting
 pub mod Search
 pub mod Signed
+pub mod Standing
 pub mod Through
 pub mod Turns
 pub mod Weighing

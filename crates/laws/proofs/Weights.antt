@@ -8,9 +8,9 @@ use native.Mathlib.Omega.{arith}
 use borrow.Author.Tests.{ltb-false, eqb-true, eqb-false, eq-eqb, ne-eqb}
 use lib.Dec.{eqb, ltb}
 use lib.ListN.{length}
+use Rattle.laws.specs.Every.{Every, none, one}
 use Rattle.laws.specs.Lists.{below, keep, times, weight}
 use Rattle.laws.proofs.Counting.{times-append, times-keep, times-below, below-once}
-use Rattle.laws.proofs.Every.{Every, none, one}
 use Rattle.laws.proofs.Weighing.{weight-append, load, load-cons, Run, ended, next}
 
 -- ---- counts are weights

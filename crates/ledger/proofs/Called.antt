@@ -7,6 +7,7 @@ use borrow.Author.Tests.{eqb-true}
 use lib.Dec.{eqb}
 use lib.Ieee.{Float}
 use lib.ListN.{length}
+use Rattle.laws.specs.Every.{none}
 use Rattle.laws.specs.Lists.{keep, times, weight}
 use Rattle.laws.proofs.Weighing.{ended}
 use Rattle.laws.proofs.Through.{through-hold}
@@ -20,7 +21,7 @@ use Rattle.matching_step.specs.Account.{matchAccount}
 use Rattle.reid.specs.Step.{reidTable, absorbed}
 use Rattle.tracker.specs.Calls.{predictRefusal, predictAnswer, matchAnswer, reidAccepted, reidAnswer}
 use Rattle.ledger.specs.History.{Call, predict, match, reid, total, current, World, after, Entry, nothing, droppedBy, matchedBy, absorbedBy, entryOf, Day, goesOn, fresh, dayOf}
-use Rattle.ledger.specs.Demand.{gather, entries, none}
+use Rattle.ledger.specs.Demand.{gather, entries}
 use Rattle.ledger.proofs.Entries.{entries-on}
 use Rattle.ledger.proofs.Fairness.{Ordered, Fairly, fairly-still}
 use Rattle.ledger.proofs.Predicted.{fairly-predicted}

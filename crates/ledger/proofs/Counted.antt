@@ -4,8 +4,10 @@ use mathlib.Core.List.{List, [], _∷_, _++_, map, map-append}
 use Prim.Native.Nat.{ℕ, _+_, _≤_}
 use native.Mathlib.Omega.{arith}
 use lib.ListN.{length, length-append, length-map}
+use Rattle.laws.specs.Every.{Every, none, one}
 use Rattle.laws.specs.Lists.{below, times, weight}
 use Rattle.laws.proofs.Counting.{times-append}
+use Rattle.laws.proofs.Every.{every-append}
 use Rattle.laws.proofs.Weighing.{weight-append, Run, run-append}
 use Rattle.table.specs.declared.Table.{Table}
 use Rattle.table.specs.Slots.{tableNames}
@@ -13,8 +15,8 @@ use Rattle.matching_step.specs.Account.{Issue}
 use Rattle.matching_step.proofs.AccountLaws.{openedNames, issuedNumbers, issuedNames}
 use Rattle.table.specs.Slots.{tableInitializing}
 use Rattle.ledger.specs.History.{Entry}
-use Rattle.ledger.specs.Demand.{gather, detectionsOf, recordsOf, All}
-use Rattle.ledger.proofs.Entries.{gather-snoc, all-snoc}
+use Rattle.ledger.specs.Demand.{gather, detectionsOf, recordsOf}
+use Rattle.ledger.proofs.Entries.{gather-snoc}
 use Rattle.laws.proofs.Weights.{run-once}
 use Rattle.ledger.proofs.Fairness.{absorbedNames, Ordered, Fairly}
 
@@ -44,8 +46,8 @@ pub record Counted (l : List Entry) (t : Table) : Type 0 where
   pub placed : (x : ℕ) → times x (tableNames t) + times x (droppedIn l) + times x (absorbedIn l) ≡ times x (openedIn l)
   -- who was issued a permanent ID or still may be
   pub weighed : (w : ℕ → ℕ) → weight w (issuedNames (issuedIn l)) + weight w (tableInitializing t) ≤ weight w (openedIn l)
-  pub detections : All (λ e. (x : ℕ) → times x (detectionsOf e) ≡ times x (below (e .detections))) l
-  pub records : All (λ e. (x : ℕ) → times x (recordsOf e) ≤ 1) l
+  pub detections : Every (λ e. (x : ℕ) → times x (detectionsOf e) ≡ times x (below (e .detections))) l
+  pub records : Every (λ e. (x : ℕ) → times x (recordsOf e) ≤ 1) l
 
 -- ---- an entry more, if it is fair
 
@@ -91,6 +93,6 @@ module _ {l : List Entry} {t u : Table} {e : Entry} (c : Counted l t) (f : Fairl
               weight-append w (openedIn l) (openedNames (e .opened)),
               weight-append w (issuedNames (issuedIn l)) (issuedNames (e .issued)),
             ));
-        detections = all-snoc (c .detections) (f .detections);
-        records = all-snoc (c .records) (λ x. omega (arith, f .records x, placed-on x, run-once run-opened x));
+        detections = every-append (c .detections) (one (f .detections) none);
+        records = every-append (c .records) (one (λ x. omega (arith, f .records x, placed-on x, run-once run-opened x)) none);
       }

@@ -3,7 +3,7 @@ use mathlib.Core.Path.{_≡_, refl, sym, _∙_, ap}
 use mathlib.Core.Bool.{Bool, true, false, cond}
 use mathlib.Core.List.{List, [], _∷_, _++_, append-assoc, append-nil}
 use Rattle.ledger.specs.History.{Call, Entry, Day, entryOf, begins, joined, goesOn}
-use Rattle.ledger.specs.Demand.{gather, entries, All, none, one}
+use Rattle.ledger.specs.Demand.{gather, entries}
 
 -- ---- what is gathered from a list
 
@@ -16,10 +16,6 @@ module _ {A B : Type 0} (f : A → List B) where
   pub gather-snoc : (l : List A) (x : A) → gather f (l ++ (x ∷ [])) ≡ gather f l ++ f x
   unfolding gather
   gather-snoc l x = gather-append l (x ∷ []) ∙ ap (λ (r : List B). gather f l ++ r) (append-nil (f x))
-
-pub all-snoc : {A : Type 0} {P : A → Type 0} {l : List A} {x : A} → All P l → P x → All P (l ++ (x ∷ []))
-all-snoc none p = one p none
-all-snoc (one q r) p = one q (all-snoc r p)
 
 -- ---- the history
 

@@ -8,7 +8,8 @@ use borrow.Author.Tests.{le-leb, eq-eqb}
 use lib.Ieee.{Float}
 use lib.ListN.{length, take, drop}
 use lib.Seq.{take-at}
-use Rattle.laws.proofs.Every.{Every, none, every-weaker, every-map, every-unmap, none-found}
+use Rattle.laws.specs.Every.{Every, none}
+use Rattle.laws.proofs.Every.{every-weaker, every-map, every-unmap, none-found}
 use Rattle.parts.specs.declared.TrackedObject.{TrackedObject}
 use Rattle.parts.specs.declared.TrackerConfig.{TrackerConfig}
 use Rattle.parts.specs.Layout.{blockSize}

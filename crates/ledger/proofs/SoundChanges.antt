@@ -11,7 +11,8 @@ use lib.Ieee.{Float}
 use lib.IntN.{ℤ, pos, negsuc, _+ℤ_}
 use lib.ListN.{length, getD-replicate}
 use lib.Signed.{leZ, ltZ}
-use Rattle.laws.proofs.Every.{none, one, every-append, every-weaker, every-drop}
+use Rattle.laws.specs.Every.{none, one}
+use Rattle.laws.proofs.Every.{every-append, every-weaker, every-drop}
 use Rattle.laws.proofs.Turns.{turns-hold}
 use Rattle.parts.specs.declared.Life.{Life}
 use Rattle.parts.specs.declared.PastDetection.{PastDetection}

@@ -11,8 +11,9 @@ use lib.Ieee.{Float}
 use lib.IntN.{pos}
 use lib.ListN.{length, getD}
 use lib.Signed.{leZ}
+use Rattle.laws.specs.Every.{none, one}
 use Rattle.laws.specs.Turns.{through}
-use Rattle.laws.proofs.Every.{none, one, every-append, every-set, every-map}
+use Rattle.laws.proofs.Every.{every-append, every-set, every-map}
 use Rattle.laws.proofs.Through.{through-hold}
 use Rattle.matching.specs.Greedy.{Pick, rowsOf, colsOf}
 use Rattle.matching.proofs.Taken.{taken-at-most, taken-once, past-not-taken}

@@ -8,7 +8,8 @@ use borrow.Author.Tests.{le-leb, le-ltb}
 use lib.Dec.{ltb}
 use lib.IntN.{pos, negsuc}
 use lib.ListN.{length, take}
-use Rattle.laws.proofs.Every.{Every, every-weaker, none-found, every-first}
+use Rattle.laws.specs.Every.{Every}
+use Rattle.laws.proofs.Every.{every-weaker, none-found, every-first}
 use Rattle.parts.specs.declared.Life.{Life}
 use Rattle.parts.specs.declared.PastDetection.{PastDetection}
 use Rattle.parts.specs.declared.ReidCounter.{ReidCounter}

@@ -3,6 +3,7 @@ use mathlib.Core.Path.{_≡_}
 use mathlib.Core.List.{List, [], _∷_, _++_, map}
 use Prim.Native.Nat.{ℕ, _+_, _≤_}
 use lib.ListN.{length}
+use Rattle.laws.specs.Every.{Every}
 use Rattle.laws.specs.Lists.{below, times, upFrom}
 use Rattle.table.specs.Slots.{tableNames}
 use Rattle.matching_step.specs.Account.{Issue}
@@ -39,17 +40,13 @@ detectionsOf e = map (λ h. h .detection) (e .first) ++ (map (λ h. h .detection
 abbrev pub recordsOf : Entry → List ℕ
 recordsOf e = map (λ h. h .name) (e .first) ++ (map (λ h. h .name) (e .second) ++ map (λ o. o .name) (e .opened))
 
-pub data All {A : Type 0} (P : A → Type 0) : List A → Type 0 where
-  none : All P []
-  one : {x : A} {l : List A} → P x → All P l → All P (x ∷ l)
-
 -- ---- the demand
 
 pub record Demand (d : Day) : Type 0 where
   -- each detection of an accepted matching step hit or opened exactly one record
-  pub detections : All (λ e. (x : ℕ) → times x (detectionsOf e) ≡ times x (below (e .detections))) (entries d)
+  pub detections : Every (λ e. (x : ℕ) → times x (detectionsOf e) ≡ times x (below (e .detections))) (entries d)
   -- and no record was hit or opened by two of one step
-  pub records : All (λ e. (x : ℕ) → times x (recordsOf e) ≤ 1) (entries d)
+  pub records : Every (λ e. (x : ℕ) → times x (recordsOf e) ≤ 1) (entries d)
   -- every record ever opened, once,
   pub opened : (x : ℕ) → times x (everOpened d) ≤ 1
   -- is in the table, dropped or absorbed, exactly one of these

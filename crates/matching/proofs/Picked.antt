@@ -6,9 +6,10 @@ use native.Mathlib.Numerals.{add-one}
 use native.Mathlib.Omega.{arith}
 use lib.ListN.{length, getD, take, replicate, length-map, List·getD-map}
 use lib.Seq.{take-at, take-length}
+use Rattle.laws.specs.Every.{Every}
 use Rattle.laws.specs.Lists.{below, padded, EachBelow}
 use Rattle.laws.specs.Turns.{through}
-use Rattle.laws.proofs.Every.{Every, every-map, every-below}
+use Rattle.laws.proofs.Every.{every-map, every-below}
 use Rattle.laws.proofs.Growing.{filled-at, by-elements}
 use Rattle.laws.proofs.Through.{through-append}
 use Rattle.matching.specs.declared.Picks.{Picks}

@@ -12,9 +12,9 @@ use borrow.Author.Tests.{eqb-true, eqb-false, lt-ltb, le-ltb}
 use lib.Dec.{eqb, ltb}
 use lib.ListN.{length, set}
 use lib.Seq.{getD-set-other}
+use Rattle.laws.specs.Every.{Every}
 use Rattle.laws.specs.Lists.{times}
 use Rattle.laws.proofs.Counting.{bit-at-most-one}
-use Rattle.laws.proofs.Every.{Every}
 use Rattle.laws.specs.Turns.{through}
 use Rattle.matching.specs.Greedy.{free, marked}
 

@@ -22,7 +22,8 @@ use Rattle.passes.specs.Checks.{Frame}
 use Rattle.matching_step.specs.Step.{State, hitOne, openOne}
 use Rattle.table.specs.Slots.{noSlot}
 use Rattle.matching_step.specs.Account.{Issue, issuedByHit, issuedByOpening}
-use Rattle.laws.proofs.Every.{Every, none, one, every-append, every-set, every-weaker}
+use Rattle.laws.specs.Every.{Every, none, one}
+use Rattle.laws.proofs.Every.{every-append, every-set, every-weaker}
 
 abbrev pub issue : ℕ → ℕ → Issue
 issue number name = record { number = number; name = name }

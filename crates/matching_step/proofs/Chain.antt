@@ -5,9 +5,10 @@ use Prim.Native.Nat.{ℕ, _+_, _<_, _≤_}
 use native.Mathlib.Omega.{arith}
 use lib.Ieee.{Float}
 use lib.ListN.{length}
+use Rattle.laws.specs.Every.{Every}
 use Rattle.laws.specs.Lists.{EachBelow}
 use Rattle.laws.specs.Turns.{through}
-use Rattle.laws.proofs.Every.{Every, every-at, every-keep, every-below, each-padded}
+use Rattle.laws.proofs.Every.{every-at, every-keep, every-below, each-padded}
 use Rattle.laws.proofs.Through.{through-keep}
 use Rattle.matching.specs.Greedy.{Pick}
 use Rattle.matching.specs.Lent.{picksOf, picked}

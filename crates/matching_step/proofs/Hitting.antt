@@ -9,8 +9,9 @@ use lib.IntN.{pos}
 use lib.ListN.{length, getD, set, take, drop, length-set}
 use lib.Seq.{paste}
 use lib.Signed.{leZ}
+use Rattle.laws.specs.Every.{Every, none, one}
 use Rattle.laws.specs.Turns.{through}
-use Rattle.laws.proofs.Every.{Every, none, one, every-at, every-set}
+use Rattle.laws.proofs.Every.{every-at, every-set}
 use Rattle.laws.proofs.Through.{through-keep}
 use Rattle.matching.specs.Greedy.{Pick}
 use Rattle.matching.proofs.Picked.{Inside}

@@ -35,7 +35,7 @@ module _ {c : TrackerConfig} {f : Frame} (fits : Fits c f) {d : ℕ} (few : d < 
   pub lent-scores : length (lentDetection c f d .scores) ≡ c .points
   lent-scores = length-part (f .scores) (d * c .points) (c .points) marks-inside
 
--- ---- the three parts, by the layout that the code computed
+-- ---- the block, and the detection's two parts, by the layout that the code computed
 
 -- block k of the floats and detection d of the frame
 pub record Lending (c : TrackerConfig) (r : Layout) (f : Frame) (s : List Float) (k d : ℕ) : Type 0 where
@@ -43,14 +43,6 @@ pub record Lending (c : TrackerConfig) (r : Layout) (f : Frame) (s : List Float)
   pub fits : Fits c f
   pub few : d < length (f .hasScores)
   pub room : k * blockSize c + blockSize c ≤ length s
-
--- as the code cuts it out
-abbrev pub lentOn : TrackerConfig → Layout → Frame → ℕ → Detection
-lentOn c r f d =
-    detection
-    (take (d * r .coords + r .coords - d * r .coords) (drop (d * r .coords) (f .points)))
-    (take (d * c .points + c .points - d * c .points) (drop (d * c .points) (f .scores)))
-    (lentDetection c f d .hasScores)
 
 module _ {c : TrackerConfig} {r : Layout} {f : Frame} {s : List Float} {k d : ℕ} (lends : Lending c r f s k d) where
   pub block-inside : k * r .size + r .size ≤ length s
@@ -65,27 +57,33 @@ module _ {c : TrackerConfig} {r : Layout} {f : Frame} {s : List Float} {k d : �
   pub block-long : length (take (k * r .size + r .size - k * r .size) (drop (k * r .size) s)) ≡ blockSize c
   block-long = part-long s (k * r .size) (r .size) block-inside ∙ ap (λ (x : Layout). x .size) (lends .layout)
 
-  pub points-long : length (take (d * r .coords + r .coords - d * r .coords) (drop (d * r .coords) (f .points))) ≡ coords c
-  points-long = part-long (f .points) (d * r .coords) (r .coords) points-inside ∙ ap (λ (x : Layout). x .coords) (lends .layout)
+-- ps and ss, as the code cut them out, are that detection's
+pub record Parted {c : TrackerConfig} {r : Layout} {f : Frame} {s : List Float} {k d : ℕ} (lends : Lending c r f s k d) (ps ss : List Float) : Type 0 where
+  pub own : ps ≡ take (r .coords) (drop (d * r .coords) (f .points))
+  pub marks : ss ≡ lentDetection c f d .scores
 
-  pub scores-long : length (take (d * c .points + c .points - d * c .points) (drop (d * c .points) (f .scores))) ≡ c .points
-  scores-long = part-long (f .scores) (d * c .points) (c .points) scores-inside
+module _ {c : TrackerConfig} {r : Layout} {f : Frame} {s : List Float} {k d : ℕ} {lends : Lending c r f s k d} {ps ss : List Float}
+    (parted : Parted lends ps ss) where
+  same-points : ps ≡ lentDetection c f d .points
+  same-points = parted .own ∙ rw (lends .layout)
+
+  pub points-long : length ps ≡ coords c
+  points-long = rw same-points (lent-points (lends .fits) (lends .few))
+
+  pub scores-long : length ss ≡ c .points
+  scores-long = rw (parted .marks) (lent-scores (lends .fits) (lends .few))
 
   -- the detection that is lent on is detection d
-  same-detection : lentOn c r f d ≡ lentDetection c f d
-  same-detection =
-      rw (part-same (f .points) (d * r .coords) (r .coords), part-same (f .scores) (d * c .points) (c .points), lends .layout)
-
-  pub by-detection : {B : Type 0} (g : Detection → B) {b : B} → b ≡ g (lentOn c r f d) → b ≡ g (lentDetection c f d)
-  by-detection g same = same ∙ ap g same-detection
+  pub by-detection : {B : Type 0} (g : Detection → B) {b : B} → b ≡ g (detection ps ss (lentDetection c f d .hasScores)) → b ≡ g (lentDetection c f d)
+  by-detection g same = same ∙ rw (same-points, parted .marks)
 
   -- what became of the block, back among the floats
   pub block-back : (g : Detection → List Float → List Float) {ys : List Float}
       → length ys ≡ length (take (k * r .size + r .size - k * r .size) (drop (k * r .size) s))
-      → ys ≡ g (lentOn c r f d) (take (k * r .size + r .size - k * r .size) (drop (k * r .size) s))
+      → ys ≡ g (detection ps ss (lentDetection c f d .hasScores)) (take (k * r .size + r .size - k * r .size) (drop (k * r .size) s))
       → take (k * r .size) s ++ (ys ++ drop (k * r .size + r .size - k * r .size) (drop (k * r .size) s))
       ≡ paste s (k * blockSize c) (g (lentDetection c f d) (take (blockSize c) (drop (k * blockSize c) s))) (blockSize c)
   block-back g {ys = ys} long same =
       let size = ap (λ (x : Layout). x .size) (lends .layout) in
-      part-back s (k * r .size) (r .size) ys (long ∙ block-long ∙ sym size)
-      ∙ rw (same, same-detection, part-same s (k * r .size) (r .size), lends .layout)
+      part-back s (k * r .size) (r .size) ys (long ∙ block-long lends ∙ sym size)
+      ∙ rw (same, same-points, parted .marks, part-same s (k * r .size) (r .size), lends .layout)

@@ -7,16 +7,17 @@ use native.Mathlib.Omega.{arith}
 use lib.Ieee.{Float}
 use lib.ListN.{length, getD, set, take, drop}
 use lib.Seq.{paste, length-take-le, getD-take}
+use Rattle.laws.specs.Every.{none, one}
 use Rattle.laws.specs.Turns.{through}
 use Rattle.laws.proofs.Through.{through-next}
-use Rattle.laws.proofs.Every.{none, one, every-append}
+use Rattle.laws.proofs.Every.{every-append}
 use Rattle.laws.proofs.Growing.{length-snoc}
-use Rattle.laws.proofs.Pasting.{part-same}
+use Rattle.laws.proofs.Pasting.{length-part}
 use Rattle.matching.specs.declared.Numbers.{Numbers}
 use Rattle.parts.specs.declared.TrackerConfig.{TrackerConfig}
 use Rattle.parts.specs.declared.TrackedObject.{TrackedObject}
 use Rattle.parts.specs.declared.Changed.{Changed}
-use Rattle.parts.specs.Layout.{coords, blockSize, layoutOf}
+use Rattle.parts.specs.Layout.{blockSize}
 use Rattle.parts.specs.Life.{isZero}
 use Rattle.tracked_object.specs.Object.{changedByOpening, blockOpened}
 use Rattle.tracked_object.proofs.ObjectLaws.{length-opened}
@@ -30,7 +31,7 @@ use Rattle.matching_step.specs.Step.{State, Fits, lentDetection, opening
 use Rattle.matching_step.specs.declared.Stepped.{Stepped}
 use Rattle.matching_step.proofs.Hitting.{next-most}
 use Rattle.matching_step.proofs.PutBack.{found, Put, put-long, part-again}
-use Rattle.matching_step.proofs.Lending.{Lending, block-long, points-long, scores-long}
+use Rattle.matching_step.proofs.Lending.{lent-points, lent-scores}
 
 -- ---- the counts
 
@@ -66,11 +67,8 @@ module _ (c : TrackerConfig) (f : Frame) (s : List Float) where
         → length (blockOpened c (lentDetection c f d) (take (blockSize c) (drop (k * blockSize c) s))) ≡ blockSize c
     opened-long d k few room =
         let b = blockSize c in
-        let lends : Lending c (layoutOf c) f s k d = record { layout = refl; fits = fits; few = few; room = room } in
-        let points = rw (part-same (f .points) (d * coords c) (coords c)) at (points-long lends) in
-        let scores = rw (part-same (f .scores) (d * c .points) (c .points)) at (scores-long lends) in
-        let block = rw (part-same s (k * b) b) at (block-long lends) in
-        length-opened c (lentDetection c f d) (take b (drop (k * b) s)) points scores block ∙ block
+        let block = length-part s (k * b) b room in
+        length-opened c (lentDetection c f d) (take b (drop (k * b) s)) (lent-points fits few) (lent-scores fits few) block ∙ block
 
     pub opens-sized : (l : List ℕ) (st : State) → EachBelow (length (f .hasScores)) (length l) l → (length (st .slots) + length l) * blockSize c ≤ length s
         → Sized (blockSize c) (st .slots) → Sized (blockSize c) (opens l st .slots)

@@ -4,6 +4,7 @@ use mathlib.Core.List.{List, _++_, map, map-append, map-map}
 use Prim.Native.Nat.{ℕ, _+_, _<_, _≤_}
 use lib.Ieee.{Float}
 use lib.ListN.{length, getD, replicate, length-append, length-map}
+use Rattle.laws.specs.Every.{Every}
 use Rattle.laws.specs.Lists.{below, times}
 use Rattle.laws.proofs.Counting.{times-append}
 use Rattle.matching.specs.Greedy.{rowsOf, colsOf}
@@ -22,7 +23,7 @@ use Rattle.matching_step.specs.Step.{matrixOf, firstHits, secondHits, to
 use Rattle.matching_step.specs.Account.{matchAccount}
 use Rattle.matching_step.proofs.AccountLaws.{opened-detections}
 use Rattle.laws.proofs.Mapped.{map-constant}
-use Rattle.laws.proofs.Every.{Every, every-append, every-weaker, every-alike}
+use Rattle.laws.proofs.Every.{every-append, every-weaker, every-alike}
 
 -- the record at a place, and the places hit, in hit order
 abbrev pub recordAt : Table → ℕ → TrackedObject

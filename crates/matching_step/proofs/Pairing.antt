@@ -1,12 +1,11 @@
 -- Rule 47: one pair more behind those that stand in an array's front.
 use mathlib.Core.Path.{_≡_, sym, _∙_}
 use mathlib.Core.List.{List, [], _∷_, _++_, map, map-append, append-assoc}
-use Prim.Native.Nat.{ℕ, suc, _+_, _-_, _<_}
+use Prim.Native.Nat.{ℕ, suc, _+_, _<_}
 use native.Mathlib.Numerals.{add-one}
-use lib.ListN.{length, set, take, replicate, length-append, length-map}
-use lib.Seq.{take-append-seam}
+use lib.ListN.{length, set, take, length-append, length-map}
 use Rattle.laws.specs.Lists.{below, filled}
-use Rattle.laws.proofs.Growing.{length-below, filled-next}
+use Rattle.laws.proofs.Growing.{length-below, filled-next, take-filled}
 use Rattle.matching.specs.declared.Picks.{Picks}
 use Rattle.matching.specs.Greedy.{Pick}
 use Rattle.matching.specs.Lent.{picked}
@@ -34,4 +33,4 @@ pub length-picked : {A : Type 0} (f : Pick → A) (picks : Picks) → length (ma
 length-picked f picks = simp (length-map, length-below)
 
 pub in-front : {A : Type 0} (n : ℕ) (d : A) (l : List A) {k : ℕ} {r : List A} → length l ≡ k → r ≡ filled n d l → take k r ≡ l
-in-front n d l e held = rw (held, ← e) (take-append-seam l (replicate (n - length l) d))
+in-front n d l e held = rw (held, ← e) (take-filled n d l)

@@ -23,6 +23,16 @@ use parts::TrackerConfig;
 use parts::block;
 use table::Counts;
 
+// The i-th of the parts of one size that floats are lent in.
+fn part_of(s: &[f64], i: usize, size: usize) -> &[f64]
+    requires { ⌜ i * size + size ≤ length (now s) ⌝ }
+    ensures { λ r. ⌜ now r ≡ take size (drop (i * size) (now (s .entry))) ⌝ }
+{
+    let start = i * size;
+    let end = start + size;
+    &s[start..end]
+}
+
 // Record o, whose block is the k-th, hit by detection d.
 fn hit_at(
     config: TrackerConfig,
@@ -44,17 +54,15 @@ fn hit_at(
     let at = block::layout_of(config);
     let start = k * at.size;
     let end = start + at.size;
-    let from = d * at.coords;
-    let to = from + at.coords;
-    let low = d * config.points;
-    let high = low + config.points;
+    let own = part_of(points, d, at.coords);
+    let marks = part_of(scores, d, config.points);
     let has = has_scores[d] != 0;
     tracked_object::hit(
         config,
         o,
         &mut s[start..end],
-        &points[from..to],
-        &scores[low..high],
+        own,
+        marks,
         has,
         period,
         distance,
@@ -81,16 +89,14 @@ fn open_at(
     let at = block::layout_of(config);
     let start = k * at.size;
     let end = start + at.size;
-    let from = d * at.coords;
-    let to = from + at.coords;
-    let low = d * config.points;
-    let high = low + config.points;
+    let own = part_of(points, d, at.coords);
+    let marks = part_of(scores, d, config.points);
     let has = has_scores[d] != 0;
     tracked_object::open(
         config,
         &mut s[start..end],
-        &points[from..to],
-        &scores[low..high],
+        own,
+        marks,
         has,
         period,
         counts.global,

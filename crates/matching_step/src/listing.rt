@@ -32,10 +32,9 @@ pub fn add_pairs(
         let d = rows[i];
         let k = cols[i];
         let o = records[k];
-        let origin = o.origin;
         let pair = Pair {
             detection: d,
-            global_id: origin.global_id,
+            global_id: o.origin.global_id,
             pass,
             distance: distances[d * n + k],
         };

@@ -28,15 +28,17 @@ fn decide(t: Table, detections: usize, distances: &[f64]) -> Decided
     requires { ⌜ Decidable t detections (length (now distances)) ⌝ }
     ensures { λ r. ⌜ r ≡ decidedOf t detections (frame 0 [] [] [] (now (distances .entry))) ⌝ }
 {
-    let config = t.config;
-    let counts = t.counts;
-    let kept = t.lists;
-    let alive = kept.alive;
-    let initializing = kept.initializing;
-    let n = counts.records;
-    let threshold = config.distance_threshold;
-    let first = passes::first_pass(distances, detections, n, threshold, alive);
-    let second = passes::second_pass(distances, detections, n, threshold, initializing, first);
+    let n = t.counts.records;
+    let threshold = t.config.distance_threshold;
+    let first = passes::first_pass(distances, detections, n, threshold, t.lists.alive);
+    let second = passes::second_pass(
+        distances,
+        detections,
+        n,
+        threshold,
+        t.lists.initializing,
+        first,
+    );
     let left = lists::left_over(detections, first, second);
     Decided {
         first,
@@ -50,12 +52,8 @@ fn lists_after(t: Table, first: Picks, second: Picks) -> Lists
     requires { ⌜ (t .counts .records ≤ 64) × (t .lists .alive .count ≤ 64) × (t .lists .dead .count ≤ 64) × (first .count ≤ 32) × (second .count ≤ 32) ⌝ }
     ensures { λ r. ⌜ r ≡ listsAfter t first second ⌝ }
 {
-    let counts = t.counts;
-    let kept = t.lists;
-    let alive = kept.alive;
-    let dead = kept.dead;
     let none = making::no_numbers();
-    let old = lists::old_ones(counts.records, alive, dead, first);
+    let old = lists::old_ones(t.counts.records, t.lists.alive, t.lists.dead, first);
     let candidates = lists::candidates(second);
     Lists {
         alive: none,
@@ -82,15 +80,13 @@ fn match_step(
     ensures { λ _. ⌜ now (s .exit) ≡ matchFloats t (now (s .entry)) (length (now («has_scores» .entry))) (frame period (now (points .entry)) (now (scores .entry)) (now («has_scores» .entry)) (now (distances .entry))) ⌝ }
 {
     let config = t.config;
-    let counts = t.counts;
     let records = t.records;
     let first = decided.first;
     let second = decided.second;
-    let left = decided.left;
     let one = changing::hit_each(
         config,
         records,
-        counts,
+        t.counts,
         s,
         points,
         scores,
@@ -100,11 +96,10 @@ fn match_step(
         first,
     );
     let one_records = one.records;
-    let one_counts = one.counts;
     let two = changing::hit_each(
         config,
         one_records,
-        one_counts,
+        one.counts,
         s,
         points,
         scores,
@@ -114,17 +109,16 @@ fn match_step(
         second,
     );
     let two_records = two.records;
-    let two_counts = two.counts;
     let three = changing::open_each(
         config,
         two_records,
-        two_counts,
+        two.counts,
         s,
         points,
         scores,
         has_scores,
         period,
-        left,
+        decided.left,
     );
     let three_records = three.records;
     let three_counts = three.counts;
@@ -214,29 +208,24 @@ pub fn match_table(
     if given != 0 {
         return refused(t, given);
     }
-    let config = t.config;
-    let counts = t.counts;
     let records = t.records;
     let decided = decide(t, detections, distances);
-    let first = decided.first;
-    let second = decided.second;
-    let left = decided.left;
-    let refusal = checks::decided_refusal(config, counts, points, left.count);
+    let refusal = checks::decided_refusal(t.config, t.counts, points, decided.left.count);
     if refusal != 0 {
         return refused(t, refusal);
     }
     let pairs = pairs_of(
         records,
-        counts.records,
+        t.counts.records,
         distances,
         detections,
-        first,
-        second,
+        decided.first,
+        decided.second,
     );
     let table = match_step(t, s, points, scores, has_scores, distances, period, decided);
     Matched {
         pairs,
-        count: first.count + second.count,
+        count: decided.first.count + decided.second.count,
         refusal: 0,
         table,
     }

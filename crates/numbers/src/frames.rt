@@ -110,7 +110,7 @@ fn frame(t: Table, storage: &mut [f64], period: u32, fish: [f64; 3], n: usize) -
 }
 
 // Delay 7, maximum 15, period 1, hit each frame: permanent ID on the seventh hit.
-pub fn seventh_hit() {
+pub(crate) fn seventh_hit() {
     let mut storage = [0.0; 64];
     let mut t = tracker::new(settings(), &storage).table;
     io::write_all(
@@ -165,7 +165,7 @@ fn run(period: u32)
 }
 
 // A coarse run beside a fine one on the same fish: the delay is counted in hits, so that the counts part.
-pub fn coarse_and_fine() {
+pub(crate) fn coarse_and_fine() {
     run(1);
     run(3);
 }
@@ -180,7 +180,7 @@ fn put_counter(t: Table) {
 }
 
 // ReID maximum 2, maximum 15, delay 0, period 1; opened in frame 1, missed in 2, hit in 3 to 6: dropped in frame 7 with hit counter 4.
-pub fn dropped_while_hit() {
+pub(crate) fn dropped_while_hit() {
     let mut storage = [0.0; 64];
     let mut t = tracker::new(settings_with(0, ReidCounter::Present(2)), &storage).table;
     io::write_all(
@@ -205,7 +205,7 @@ pub fn dropped_while_hit() {
 }
 
 // Delay 14 of 15 is accepted, 15 is refused by 2.
-pub fn delays() {
+pub(crate) fn delays() {
     let storage = [0.0; 64];
     let mut config = settings();
     config.initialization_delay = 14;

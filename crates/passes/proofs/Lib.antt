@@ -1,3 +1,2 @@
 -- Laws of both passes and of the lists that they leave, and what the functions cite.
-pub mod Standing
 pub mod PassLaws

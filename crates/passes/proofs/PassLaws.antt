@@ -2,17 +2,17 @@
 use mathlib.Core.Path.{_≡_, refl, sym, _∙_, ap}
 use mathlib.Core.Bool.{Bool, true, false, true≢false, not, _&&_, _||_, cond}
 use mathlib.Core.List.{List, [], _∷_, _++_}
-use Prim.Native.Nat.{ℕ, zero, suc, _+_, _-_, _≤_, zero-le}
+use Prim.Native.Nat.{ℕ, zero, suc, _+_, _≤_, zero-le}
 use native.Mathlib.Nat.{le-refl, le-trans}
 use native.Mathlib.Omega.{arith}
 use borrow.Author.Tests.{eqb-false, le-ltb}
 use lib.Dec.{eqb, ltb}
 use lib.ListN.{length, set, replicate, length-append, length-map}
-use lib.Seq.{take-append-seam, getD-set-other}
+use lib.Seq.{getD-set-other}
 use Rattle.laws.specs.Lists.{below, keep, any, holds, times, EachBelow}
 use Rattle.laws.specs.Turns.{through}
 use Rattle.laws.proofs.Every.{each-padded}
-use Rattle.laws.proofs.Growing.{length-filled}
+use Rattle.laws.proofs.Growing.{length-filled, take-filled}
 use Rattle.matching.specs.declared.Numbers.{Numbers}
 use Rattle.matching.specs.Greedy.{Matrix, Pick, free, marked, cleared, rowsOf, colsOf}
 use Rattle.matching.specs.Lent.{picksOf}
@@ -25,7 +25,7 @@ use Rattle.laws.proofs.Counting.{times-append, times-keep, kept-at-most, times-
 -- ---- a struct of numbers lists what it was made of
 
 pub numbers-of : (l : List ℕ) → numbers (numbersOf l) ≡ l
-numbers-of l = take-append-seam l (replicate (64 - length l) 0)
+numbers-of l = take-filled 64 0 l
 
 -- what a call says of the numbers that it returns
 module _ (l : List ℕ) {r : Numbers} (e : r ≡ numbersOf l) where

@@ -2,15 +2,16 @@
 use mathlib.Core.Path.{_≡_, refl, sym, _∙_, ap}
 use mathlib.Core.Bool.{Bool, true, false, cond, _&&_}
 use mathlib.Core.List.{List, [], _∷_}
-use Prim.Native.Nat.{ℕ, _+_, _-_, _*_, _<_, _≤_}
+use Prim.Native.Nat.{ℕ, _+_, _*_, _<_, _≤_}
 use native.Mathlib.Nat.{mul-le-mul-right, le-trans}
 use borrow.Author.Tests.{ltb-true}
 use lib.Dec.{eqb, ltb}
 use lib.Ieee.{Float}
-use lib.ListN.{length, getD, take, drop, replicate}
-use lib.Seq.{take-at, take-append-seam}
+use lib.ListN.{length, getD, take, drop}
+use lib.Seq.{take-at}
 use Rattle.laws.specs.Lists.{below, keep, holds, times}
 use Rattle.laws.proofs.Counting.{bit-at-most-one, times-kept, holds-kept}
+use Rattle.laws.proofs.Growing.{take-filled}
 use Rattle.laws.proofs.Weighing.{parted}
 use Rattle.matching.specs.declared.Numbers.{Numbers}
 use Rattle.parts.specs.declared.TrackerConfig.{TrackerConfig}
@@ -102,9 +103,7 @@ module _ (t : Table) (s : List Float) (sort : Sort) where
   -- ascending: of 0, 1 and so on below the new count, those that fit
   pub in-order : listed ≡ keep fitting (below (predictTable t s .counts .records))
   unfolding predictTable
-  in-order =
-      let l = keep fitting (below (length (slotsKept t s))) in
-      rw (is-placed t s sort) (take-append-seam l (replicate (64 - length l) 0))
+  in-order = rw (is-placed t s sort) (take-filled 64 0 (keep fitting (below (length (slotsKept t s)))))
 
   listed-times : (x : ℕ) → times x listed ≡ cond (ltb x (predictTable t s .counts .records) && fitting x) 1 0
   listed-times x = ap (times x) in-order ∙ times-kept fitting x (predictTable t s .counts .records)

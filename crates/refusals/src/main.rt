@@ -24,7 +24,7 @@ fn main() {
 }
 
 // One point of two coordinates, two records, no history: 2 blocks of 15 floats.
-pub fn good() -> TrackerConfig {
+fn good() -> TrackerConfig {
     TrackerConfig {
         points: 1,
         dims: 2,
@@ -42,12 +42,12 @@ pub fn good() -> TrackerConfig {
     }
 }
 
-pub fn put(name: &[u8], n: usize) {
+fn put(name: &[u8], n: usize) {
     io::write_all(STDOUT_FILENO, name);
     io::print_decimal(STDOUT_FILENO, n as u64);
 }
 
-pub fn put_kept(kept: bool) {
+fn put_kept(kept: bool) {
     if kept {
         io::write_all(STDOUT_FILENO, b", nothing changed\n");
     } else {
@@ -96,9 +96,17 @@ fn makings() {
     make_with(b"delay 14 of 15", 14, 15, 1, 31);
     make_with(b"delay 15 of 15", 15, 15, 1, 31);
     make_with(b"delay 15 of 15, storage short", 15, 15, 1, 29);
+    makings_below_0();
+    makings_of_17_points();
+}
+
+fn makings_below_0() {
     make_with(b"delay -2", -2, 15, 1, 31);
     make_with(b"delay -2, storage short", -2, 15, 1, 29);
     make_with(b"delay -2 of -4", -2, -4, 1, 31);
+}
+
+fn makings_of_17_points() {
     make_with(b"delay -2, 17 points", -2, 15, 17, 31);
     make_with(b"delay 15 of 15, 17 points", 15, 15, 17, 31);
     make_with(b"17 points", 7, 15, 17, 31);
@@ -216,6 +224,11 @@ fn steps() {
     out_of_step(b"out of step", 7, 0, 30);
     in_step(b"frames used up", 7, 200000000, 30);
     in_step(b"too many frames", 7, 200000001, 30);
+    steps_in_pairs();
+}
+
+// Two refusals are due: the first in order answers.
+fn steps_in_pairs() {
     in_step(b"zeros, storage short", -2, 0, 0);
     out_of_step(b"zeros, out of step", -2, 0, 30);
     in_step(b"too many frames, storage short", 7, 200000001, 29);

@@ -15,16 +15,10 @@ use table::Phase;
 use table::Table;
 
 fn same_float(a: f64, b: f64) -> bool {
-    if a != a {
-        return b != b;
-    }
-    if b != b {
-        return false;
-    }
-    f64::to_bits(a) == f64::to_bits(b)
+    words::word_of(a) == words::word_of(b)
 }
 
-pub fn same_floats(a: &[f64], b: &[f64]) -> bool {
+pub(crate) fn same_floats(a: &[f64], b: &[f64]) -> bool {
     if a.len() != b.len() {
         return false;
     }
@@ -292,7 +286,7 @@ fn same_config(a: TrackerConfig, b: TrackerConfig) -> bool {
     )
 }
 
-pub fn same_tables(a: Table, b: Table) -> bool {
+pub(crate) fn same_tables(a: Table, b: Table) -> bool {
     let records_a = a.records;
     let records_b = b.records;
     let config_a = a.config;
@@ -322,7 +316,7 @@ fn same_pair(a: Pair, b: Pair) -> bool {
     laws::both(who, how)
 }
 
-pub fn same_pairs(a: [Pair; 40], b: [Pair; 40]) -> bool {
+pub(crate) fn same_pairs(a: [Pair; 40], b: [Pair; 40]) -> bool {
     let mut i = 0;
     while i < 40 {
         let x = a[i];

@@ -108,7 +108,7 @@ fn run_with(first: usize, second: usize) {
 }
 
 // Each refusal alone, and each two of them: the first in order answers.
-pub fn faults() {
+pub(crate) fn faults() {
     let mut i = 0;
     while i < 5 {
         let mut j = i;
@@ -138,13 +138,21 @@ fn of_lengths(
 }
 
 // Matrix lengths 0, one short, as asked and one long; declared and not; an active list one place short.
-pub fn lengths() {
+pub(crate) fn lengths() {
     of_lengths(b"declared, 2 asked, 0 lent", true, 1, 2, 0, 2);
     of_lengths(b"declared, 2 asked, 1 lent", true, 1, 2, 1, 2);
     of_lengths(b"declared, 2 asked, 2 lent", true, 1, 2, 2, 2);
     of_lengths(b"declared, 2 asked, 3 lent", true, 1, 2, 3, 2);
+    nothing_to_match();
+    not_declared();
+}
+
+fn nothing_to_match() {
     of_lengths(b"declared, no candidates, 0 lent", true, 0, 2, 0, 2);
     of_lengths(b"declared, no old ones, 1 lent", true, 1, 0, 1, 2);
+}
+
+fn not_declared() {
     of_lengths(b"not declared, 0 lent", false, 1, 2, 0, 2);
     of_lengths(b"not declared, 2 lent", false, 1, 2, 2, 2);
     of_lengths(b"an active list one place short", false, 1, 2, 0, 1);
@@ -183,7 +191,7 @@ fn merged(name: &[u8], candidates: Numbers, old: Numbers, distances: &[f64]) {
 }
 
 // Lists that overlap or are unsorted: neither traps nor loops.
-pub fn altered() {
+pub(crate) fn altered() {
     merged(
         b"one record absorbed",
         places(0, 1, 1),
@@ -202,6 +210,11 @@ pub fn altered() {
         places(1, 0, 2),
         &[0.5, 2.0, 2.0, 0.5],
     );
+    unsorted();
+    many();
+}
+
+fn unsorted() {
     merged(
         b"unsorted lists",
         places(1, 0, 2),
@@ -220,7 +233,6 @@ pub fn altered() {
         places(1, 0, 1),
         &[0.5, 0.5],
     );
-    many();
 }
 
 // A table of 33 records, all of them candidates, which no step 2 lists.

@@ -30,7 +30,7 @@ fn no_pairs() -> [Pair; 40] {
 }
 
 // A table of n records, the first of them alive, in this phase.
-pub fn holding(t: Table, n: usize, phase: Phase) -> Table {
+pub(crate) fn holding(t: Table, n: usize, phase: Phase) -> Table {
     let mut counts = t.counts;
     counts.records = n;
     counts.opened = 2;
@@ -94,7 +94,7 @@ fn out_of_step(t: Table) -> Table {
 }
 
 // The table with more frames, a smaller capacity or more records opened, as the refusal asks.
-pub fn spoilt(t: Table, refusal: usize) -> Table {
+pub(crate) fn spoilt(t: Table, refusal: usize) -> Table {
     let mut next = t;
     let mut counts = t.counts;
     let mut config = t.config;
@@ -203,7 +203,7 @@ fn run(c: Case) {
 }
 
 // One fault, or two.
-pub fn put_faults(first: usize, second: usize) {
+pub(crate) fn put_faults(first: usize, second: usize) {
     io::print_decimal(STDOUT_FILENO, first as u64);
     if first != second {
         io::write_all(STDOUT_FILENO, b" and ");
@@ -213,7 +213,7 @@ pub fn put_faults(first: usize, second: usize) {
 }
 
 // Each refusal alone, and each two of them: the first in order answers.
-pub fn faults() {
+pub(crate) fn faults() {
     io::write_all(STDOUT_FILENO, b"step 2, good: ");
     run(good_case());
     let mut i = 0;
@@ -285,42 +285,36 @@ fn two_by(name: &[u8], capacity: usize, n: usize, threshold: f64, distances: &[f
 
 // No detection, and as many as may come.
 fn few_and_many() {
+    so_many(b"0 detections", 0);
+    so_many(b"32 detections", 32);
+}
+
+// So many detections, and an empty table with room for 64 records.
+fn so_many(name: &[u8], n: usize) {
     let mut config = good();
     config.capacity = 64;
     let mut storage = [0.25; 960];
     let fresh = tracker::new(config, &storage).table;
-    let table = holding(fresh, 0, Phase::Match);
     let none = [0.0; 0];
-    let no_bytes = [0u8; 0];
-    let first = by_value::match_detections(
-        table,
-        &mut storage,
-        1,
-        0,
-        &none,
-        &none,
-        &no_bytes,
-        &none,
-        no_pairs(),
-        32,
-    );
-    show(b"0 detections", first);
     let points = [1.0; 64];
     let scores = [1.0; 32];
     let has_scores = [1u8; 32];
-    let second = by_value::match_detections(
-        table,
+    if n > 32 {
+        return;
+    }
+    let r = by_value::match_detections(
+        holding(fresh, 0, Phase::Match),
         &mut storage,
         1,
-        32,
-        &points,
-        &scores,
-        &has_scores,
+        n,
+        &points[..2 * n],
+        &scores[..n],
+        &has_scores[..n],
         &none,
         no_pairs(),
         32,
     );
-    show(b"32 detections", second);
+    show(name, r);
 }
 
 // The table whose first record has run out of hits.
@@ -361,10 +355,16 @@ fn freed_by_a_drop() {
     show(b"room freed by a drop", r);
 }
 
-pub fn accepted() {
-    let nan = 0.0 / 0.0;
-    let infinity = 1.0 / 0.0;
+pub(crate) fn accepted() {
     few_and_many();
+    full_tables();
+    freed_by_a_drop();
+    matrices();
+    thresholds();
+    negative_thresholds();
+}
+
+fn full_tables() {
     two_by(b"the table just full afterwards", 2, 1, 1.0, &[0.5, 0.25]);
     two_by(
         b"a full table, both hit",
@@ -380,7 +380,10 @@ pub fn accepted() {
         1.0,
         &[0.5, 0.25, 2.0, 2.0],
     );
-    freed_by_a_drop();
+}
+
+fn matrices() {
+    let nan = 0.0 / 0.0;
     two_by(b"a matrix of NaN", 4, 2, 1.0, &[nan, nan, nan, nan]);
     two_by(
         b"a matrix of NaN, a full table",
@@ -390,6 +393,11 @@ pub fn accepted() {
         &[nan, nan, nan, nan],
     );
     two_by(b"all entries equal", 4, 2, 1.0, &[0.5, 0.5, 0.5, 0.5]);
+}
+
+fn thresholds() {
+    let nan = 0.0 / 0.0;
+    let infinity = 1.0 / 0.0;
     two_by(b"threshold NaN", 4, 2, nan, &[0.5, 0.25, 0.5, 0.25]);
     two_by(
         b"threshold infinite",
@@ -398,6 +406,11 @@ pub fn accepted() {
         infinity,
         &[0.5, infinity, nan, 1.0e300],
     );
+}
+
+fn negative_thresholds() {
+    let nan = 0.0 / 0.0;
+    let infinity = 1.0 / 0.0;
     two_by(
         b"threshold minus infinite",
         4,

@@ -7,8 +7,9 @@ use native.Mathlib.Omega.{arith}
 use lib.Ieee.{Float}
 use lib.ListN.{length, getD, set, length-set}
 use lib.Seq.{paste}
+use Rattle.laws.specs.Every.{Every, none, one}
 use Rattle.laws.specs.Turns.{through}
-use Rattle.laws.proofs.Every.{Every, none, one, every-weaker, every-set, every-at}
+use Rattle.laws.proofs.Every.{every-weaker, every-set, every-at}
 use Rattle.laws.proofs.Through.{through-keep}
 use Rattle.matching.specs.Greedy.{Pick}
 use Rattle.matching.proofs.Picked.{Inside}

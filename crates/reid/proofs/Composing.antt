@@ -4,7 +4,8 @@ use mathlib.Core.List.{List}
 use Prim.Native.Nat.{_*_, _≤_}
 use lib.Ieee.{Float}
 use lib.ListN.{length, take}
-use Rattle.laws.proofs.Every.{Every, every-weaker}
+use Rattle.laws.specs.Every.{Every}
+use Rattle.laws.proofs.Every.{every-weaker}
 use Rattle.matching.specs.declared.Picks.{Picks}
 use Rattle.matching.specs.Lent.{picksOf, picked}
 use Rattle.matching.proofs.Picked.{picked-rows, picked-of}

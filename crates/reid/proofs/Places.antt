@@ -7,8 +7,9 @@ use native.Mathlib.Nat.{mul-le-mul-right, le-trans, min-le-left, min-le-right}
 use native.Mathlib.Omega.{arith}
 use lib.Ieee.{Float}
 use lib.ListN.{length, getD, replicate, length-map}
+use Rattle.laws.specs.Every.{Every}
 use Rattle.laws.specs.Lists.{below, padded, EachBelow}
-use Rattle.laws.proofs.Every.{Every, every-weaker, every-map, every-unmap, every-and, each-padded}
+use Rattle.laws.proofs.Every.{every-weaker, every-map, every-unmap, every-and, each-padded}
 use Rattle.laws.proofs.Growing.{length-below}
 use Rattle.matching.specs.declared.Numbers.{Numbers}
 use Rattle.matching.specs.declared.Picks.{Picks}

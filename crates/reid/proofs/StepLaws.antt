@@ -9,9 +9,10 @@ use lib.Dec.{ltb, eqb}
 use lib.Ieee.{Float}
 use lib.ListN.{length, getD, drop, length-map, List·getD-map}
 use lib.Seq.{take-at, map-set-same}
+use Rattle.laws.specs.Every.{Every}
 use Rattle.laws.specs.Lists.{below, keep, holds, times, weight}
 use Rattle.laws.proofs.Counting.{holds-kept}
-use Rattle.laws.proofs.Every.{Every, every-alike, every-at, every-keep, every-map, every-unmap, every-below, keep-every}
+use Rattle.laws.proofs.Every.{every-alike, every-at, every-keep, every-map, every-unmap, every-below, keep-every}
 use Rattle.laws.proofs.Growing.{at-most, length-below, take-each}
 use Rattle.laws.proofs.Through.{through-keep}
 use Rattle.laws.proofs.Weighing.{keep-map, load-cons, parted}

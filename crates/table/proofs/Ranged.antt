@@ -2,7 +2,7 @@
 use mathlib.Core.List.{List}
 use Prim.Native.Nat.{ℕ}
 use lib.Ieee.{Float}
-use Rattle.laws.proofs.Every.{Every}
+use Rattle.laws.specs.Every.{Every}
 use Rattle.parts.specs.declared.TrackerConfig.{TrackerConfig}
 use Rattle.parts.specs.declared.TrackedObject.{TrackedObject}
 use Rattle.parts.specs.Ranges.{ObjectInRange}

@@ -12,7 +12,7 @@ use denote.Shadow.{shadow}
 use denote.Array.{Array, each}
 use denote.Struct.Declared.{row}
 use Rattle.laws.proofs.Elements.{getD-any}
-use Rattle.laws.proofs.Every.{Every, none, one}
+use Rattle.laws.specs.Every.{Every, none, one}
 use Rattle.parts.specs.declared.TrackedObject.{TrackedObject}
 use Rattle.parts.specs.declared.ReidCounter.the-variants.{Absent}
 use Rattle.parts.specs.declared.PermanentId.the-variants.{Unissued}

@@ -8,9 +8,10 @@ use native.Mathlib.Omega.{arith}
 use lib.Ieee.{Float}
 use lib.ListN.{length, getD, set, take, drop, length-append, length-map, length-set, take-append-drop, List·getD-append, List·getD-map}
 use lib.Seq.{paste, take-suc, take-add, take-nil, take-at, take-all, drop-nil, drop-cons, drop-append-add, drop-append-le, take-append-add, getD-at, getD-take, set-append-left, set-split, ext-getD}
+use Rattle.laws.specs.Every.{Every, none, one}
 use Rattle.laws.specs.Lists.{below}
 use Rattle.laws.proofs.Elements.{getD-any}
-use Rattle.laws.proofs.Every.{Every, none, one, every-at, every-map, every-below}
+use Rattle.laws.proofs.Every.{every-at, every-map, every-below}
 use Rattle.laws.proofs.Growing.{length-snoc}
 use Rattle.laws.proofs.Fronts.{front-length, front-behind, front-getD-behind, front-set, front-put, front-paste, drop-take, take-fewer}
 use Rattle.laws.proofs.Mapped.{map-set}

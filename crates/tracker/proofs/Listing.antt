@@ -1,11 +1,10 @@
 -- Rules 13, 47 and 64: what the cores of steps 2 and 3 return is what the public calls answer and list. Of step 2 none of it asks whether the step is refused.
 use mathlib.Core.Path.{_≡_, refl, sym, _∙_, ap}
 use mathlib.Core.List.{List, _++_}
-use Prim.Native.Nat.{ℕ, _-_}
-use lib.ListN.{length, take, drop, replicate}
-use lib.Seq.{take-append-seam}
+use Prim.Native.Nat.{ℕ}
+use lib.ListN.{length, take, drop}
 use lib.Ieee.{Float}
-use Rattle.laws.specs.Lists.{filled}
+use Rattle.laws.proofs.Growing.{take-filled}
 use Rattle.table.specs.declared.Table.{Table}
 use Rattle.table.specs.declared.Answer.{Answer}
 use Rattle.pairs.specs.declared.Pair.{Pair}
@@ -13,10 +12,6 @@ use Rattle.passes.specs.Checks.{Frame}
 use Rattle.matching_step.specs.Step.{matched, listedPairs, noPair}
 use Rattle.reid.specs.Step.{reidTable, reidFloats, activeIds}
 use Rattle.tracker.specs.Calls.{answerFrom, matchAnswer, matchPairs, reidRefusal, reidAnswer, reidStorage, reidActive}
-
--- the front of a fixed array is the list that was put there
-take-filled : {A : Type 0} (n : ℕ) (x : A) (l : List A) → take (length l) (filled n x l) ≡ l
-take-filled n x l = take-append-seam l (replicate (n - length l) x)
 
 pub answer-is : (t : Table) (s : List Float) (d : ℕ) (f : Frame) (places : ℕ) → answerFrom (matched t s d f places) ≡ matchAnswer t s d f places
 unfolding matched matchAnswer

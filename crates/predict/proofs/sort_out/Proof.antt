@@ -1,15 +1,15 @@
 -- `predict::sort_out` meets its contract: the array holds the places below i of records that stand in the list.
 use mathlib.Core.Path.{_≡_, refl, sym, _∙_, ap}
 use mathlib.Core.Bool.{Bool}
-use mathlib.Core.List.{List, [], _∷_, _++_}
+use mathlib.Core.List.{List}
 use mathlib.Core.Logic.{⊎-elim}
-use Prim.Native.Nat.{ℕ, suc, _≤_, _+_, _-_}
+use Prim.Native.Nat.{ℕ, _≤_, _-_}
 use native.Mathlib.Omega.{arith}
-use native.Mathlib.Numerals.{add-one}
 use borrow.Author.Needs.{needs}
 use lib.ListN.{length, getD}
-use Rattle.laws.specs.Lists.{below, keep, padded}
-use Rattle.laws.proofs.Growing.{length-snoc, filled-snoc, joins, stays-out, at-most}
+use Rattle.laws.specs.Lists.{below, keep}
+use Rattle.laws.proofs.Growing.{at-most}
+use Rattle.laws.proofs.Standing.{Stands, below-joins, below-stays}
 use Rattle.parts.specs.declared.TrackerConfig.{TrackerConfig}
 use Rattle.parts.specs.declared.TrackedObject.{TrackedObject}
 use Rattle.table.specs.Making.{zeroObject}
@@ -22,19 +22,15 @@ use Rattle.predict.proofs.sort_out.Tie as tie
 abbrev stands : TrackerConfig → Sort → List TrackedObject → ℕ → Bool
 stands c sort records i = belongs c sort (getD records i zeroObject)
 
-abbrev placed : TrackerConfig → Sort → List TrackedObject → ℕ → List ℕ
-placed c sort records i = keep (stands c sort records) (below i)
-
 abbrev Inv-loop : tie.InvT-loop
-Inv-loop config sort n records at₀ count₀ i₀ at count i =
-    (i ≤ n) × (count ≡ length (placed config sort records i)) × (at ≡ padded 64 (placed config sort records i))
+Inv-loop config sort n records at₀ count₀ i₀ at count i = (i ≤ n) × Stands 64 (keep (stands config sort records) (below i)) at count
 
 abbrev μ-loop : tie.MeasureT-loop
 μ-loop config sort n records at₀ count₀ i₀ at count i = n - i
 
 loop-holds : tie.Need-loop-holds Inv-loop μ-loop
 unfolding below keep
-loop-holds c = (search needs, refl, refl)
+loop-holds c = (search needs, (refl, refl))
 
 mul-o : tie.Need-mul-o Inv-loop μ-loop
 mul-o c = search needs
@@ -76,30 +72,20 @@ loop-less : tie.Need-loop-less Inv-loop μ-loop
 loop-less c = search needs
 
 loop-again : tie.Need-loop-again Inv-loop μ-loop
-unfolding below
 loop-again c =
     let a = c .before .before .before .before .before .args in
     let loop = c .before .before .before .before .loop in
     let p = stands (a .config) (a .sort) (a .t3) in
-    let l = keep p (below (loop .i)) in
+    let told = sym (answered (c .before)) in
     ⊎-elim
-    (λ w.
-    let u : keep p (below (loop .i + 1)) ≡ l ++ (loop .i ∷ []) =
-    rw (add-one (loop .i)) (joins p (below (loop .i)) (loop .i) (sym (answered (c .before)) ∙ w .0 .taken)) in (
-      omega arith,
-      rw (u, length-snoc l (loop .i)) (w .2 ∙ add-one (loop .count) ∙ ap suc (loop .inv .1)),
-      rw u (w .1 ∙ rw (loop .inv .2, loop .inv .1) (filled-snoc 64 0 l (loop .i) (omega (arith, at-most p (loop .i))))),
-    ))
-    (λ w.
-    let u : keep p (below (loop .i + 1)) ≡ l =
-    rw (add-one (loop .i)) (stays-out p (below (loop .i)) (loop .i) (sym (answered (c .before)) ∙ w .0 .left)) in
-    (omega arith, rw u (w .2 ∙ loop .inv .1), rw u (w .1 ∙ loop .inv .2)))
+    (λ w. (omega arith, rw (w .1, w .2) (below-joins 64 p (loop .i) (omega arith) (told ∙ w .0 .taken) (loop .inv .1))))
+    (λ w. (omega arith, rw (w .1, w .2) (below-stays 64 p (loop .i) (told ∙ w .0 .left) (loop .inv .1))))
     (c .if1 .came)
 
 returns : tie.Need-returns Inv-loop μ-loop
 returns c =
     let e : c .before .loop .i ≡ c .before .before .args .n = omega arith in
-    rw (c .before .loop .inv .1, c .before .loop .inv .2, e)
+    rw (c .before .loop .inv .1 .0, c .before .loop .inv .1 .1, e)
 
 pub sort-out-spec : {M : Type 1} → statement M
 sort-out-spec =

@@ -93,9 +93,11 @@ loop-again c =
     let a = given l .args in
     let all : length (a .t2) ≡ 64 = given l .good .1 .0 .1 .0 .1 in
     let h : l .loop .i < length (numbers (a .left)) = omega (arith, count l) in
-    let d = getD-take (a .left .count) (a .left .at) (l .loop .i) 0 (omega arith) in
-    let next = turn-next (ready l) (l .loop .i) (omega arith) (l .loop .inv .1) h (omega (arith, count l)) (sym d) in
-    (omega arith, rw (c .count-opening .ensures) (next (called .open-at .ensures .0) (called .open-at .ensures .1)))
+    let d = getD-take (a .left .count) (a .left .at) (l .loop .i) 0 (omega arith) in (
+      omega arith,
+      let next = turn-next (ready l) (l .loop .i) (omega arith) (l .loop .inv .1) h (omega (arith, count l)) (sym d) in
+          rw (c .count-opening .ensures) (next (called .open-at .ensures .0) (called .open-at .ensures .1)),
+    )
 
 same-length : tie.Need-same-length Inv-loop μ-loop
 same-length c = let l = c .before .before in turn-long (ready l) (l .loop .i) (omega (arith, count l)) (l .loop .inv .1)

@@ -65,17 +65,17 @@ mul-o c = record { fits = omega (arith, chosen c) }
 array-copy-out-o : tie.Need-array-copy-out-o Inv-loop μ-loop
 array-copy-out-o c = chosen c .0
 
-mul-t23 : tie.Need-mul-t23 Inv-loop μ-loop
-mul-t23 c = record { fits = omega (arith, chosen (c .before .before)) }
+mul-t22 : tie.Need-mul-t22 Inv-loop μ-loop
+mul-t22 c = record { fits = omega (arith, chosen (c .before)) }
 
-add-t20 : tie.Need-add-t20 Inv-loop μ-loop
-add-t20 c = record { fits = omega (arith, chosen (c .before .before)) }
+add-t19 : tie.Need-add-t19 Inv-loop μ-loop
+add-t19 c = record { fits = omega (arith, chosen (c .before)) }
 
-mul-t29 : tie.Need-mul-t29 Inv-loop μ-loop
-mul-t29 c = record { fits = omega (arith, chosen (c .before .before)) }
+mul-t28 : tie.Need-mul-t28 Inv-loop μ-loop
+mul-t28 c = record { fits = omega (arith, chosen (c .before)) }
 
-shared-slice-read-t31 : tie.Need-shared-slice-read-t31 Inv-loop μ-loop
-shared-slice-read-t31 c = chosen (c .before .before .before) .1
+shared-slice-read-t30 : tie.Need-shared-slice-read-t30 Inv-loop μ-loop
+shared-slice-read-t30 c = chosen (c .before .before) .1
 
 add-pairs : tie.Need-add-pairs Inv-loop μ-loop
 add-pairs c = search needs
@@ -94,7 +94,7 @@ loop-less c = search needs
 
 loop-again : tie.Need-loop-again Inv-loop μ-loop
 loop-again c =
-    let t = c .before .before .before in
+    let t = c .before .before in
     let l = t .before .before in
     let a = given l .args in
     let k = getD (a .picks .cols) (l .loop .i) 0 in
@@ -124,10 +124,10 @@ add-pairs-spec =
     array-read-k
     mul-o
     array-copy-out-o
-    mul-t23
-    add-t20
-    mul-t29
-    shared-slice-read-t31
+    mul-t22
+    add-t19
+    mul-t28
+    shared-slice-read-t30
     add-pairs
     mul-pairs
     array-set-from-pairs

@@ -1,15 +1,13 @@
 -- `matching_step::stepping::decide` meets its contract: pass 1, then pass 2 on the rows that it left, then the leftovers.
 use mathlib.Core.List.{[]}
-use Prim.Native.Nat.{_≤_}
 use native.Mathlib.Omega.{arith}
-use borrow.Author.Needs.{needs}
 use Rattle.passes.specs.Checks.{Frame, frame}
 use Rattle.matching_step.proofs.Deciding.{first-few, first-rows, second-few, decided}
 use Rattle.matching_step.proofs.stepping.decide.Statement.{statement}
 use Rattle.matching_step.proofs.stepping.decide.Tie as tie
 
-abbrev given : tie.After-initializing → tie.Start
-given c = c .before .before .before .before .before .before
+abbrev given : tie.After-shared-slice-known → tie.Start
+given c = c .before
 
 abbrev lent : tie.Start → Frame
 lent b = frame 0 [] [] [] (b .args .distances .now)

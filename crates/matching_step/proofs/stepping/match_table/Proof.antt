@@ -34,14 +34,13 @@ none-given c = sym (c .before .given-refusal .ensures) ∙ c .if1 .left
 
 decide-requires : tie.Need-decide-requires
 decide-requires c κs =
-    let none = c .before .before .before in
-    let b = start (none .before) in
-    decidable (b .args .t) (length (b .args .s .now)) (b .args .period) (b .args .detections) (lengthsOf (lent b) (b .args .places)) (none-given none)
+    let b = start (c .before .before) in
+    decidable (b .args .t) (length (b .args .s .now)) (b .args .period) (b .args .detections) (lengthsOf (lent b) (b .args .places)) (none-given (c .before))
 
 -- ---- a refusal once they are decided
 
 abbrev given : tie.After-decide → tie.Else1
-given c = c .before .before .before .before
+given c = c .before .before
 
 came : (c : tie.After-decide) →
     let b = start (given c .before) in
@@ -49,43 +48,40 @@ came : (c : tie.After-decide) →
 came c = record { none = none-given (given c); made = c .decide .ensures }
 
 decided-refusal-requires : tie.Need-decided-refusal-requires
-decided-refusal-requires c κs = askable (came (c .before .before .before))
+decided-refusal-requires c κs = askable (came c)
 
 refused-requires-2 : tie.Need-refused-requires-2
 refused-requires-2 c κs = search needs
 
-abbrev picks : tie.After-decided-refusal → tie.After-decide
-picks c = c .before .before .before .before
-
 returns-2 : tie.Need-returns-2
 returns-2 c =
     let call = c .before .before in
-    matched-decided (came (picks call)) (call .decided-refusal .ensures) (c .before .if2 .taken) (c .refused2 .ensures)
+    matched-decided (came (call .before)) (call .decided-refusal .ensures) (c .before .if2 .taken) (c .refused2 .ensures)
 
 -- ---- no refusal is due
 
 pairs-of-requires : tie.Need-pairs-of-requires
-pairs-of-requires c κs = pairable (came (picks (c .before)))
+pairs-of-requires c κs = pairable (came (c .before .before))
 
 match-step-requires : tie.Need-match-step-requires
 match-step-requires c κs =
     let none = c .before .before in
-    let d = picks (none .before) in
+    let d = none .before .before in
     let b = start (given d .before) in
     startable (came d) (none .before .decided-refusal .ensures) (none .if2 .left) (simp length-map at (b .good .0 .1 .1 .0 .1 .0 .1))
 
-add-t25 : tie.Need-add-t25
-add-t25 c = omega (arith, pairable (came (picks (c .before .before .before .before .before .before .before .before))) .0)
+add-t20 : tie.Need-add-t20
+add-t20 c = omega (arith, pairable (came (c .before .before .before .before .before .before .before .before)) .0)
 
 same-length : tie.Need-same-length
 same-length c = search needs
 
 returns-3 : tie.Need-returns-3
 returns-3 c =
-    let call = c .before .before .before .before in
+    let call = c .before .before .before in
     let pairs = call .before .before in
     let none = pairs .before in
-    matched-accepted (came (picks (none .before))) (none .before .decided-refusal .ensures) (none .if2 .left)
+    matched-accepted (came (none .before .before)) (none .before .decided-refusal .ensures) (none .if2 .left)
     (pairs .pairs-of .ensures) (call .match-step .ensures .0) (call .match-step .ensures .1)
 
 pub match-table-spec : {M : Type 1} → statement M
@@ -101,6 +97,6 @@ match-table-spec =
     returns-2
     pairs-of-requires
     match-step-requires
-    add-t25
+    add-t20
     same-length
     returns-3)

@@ -1,11 +1,8 @@
 -- `matching_step::stepping::pairs_of` meets its contract: the pairs of pass 2 behind those of pass 1.
-use mathlib.Core.Path.{_≡_, refl, sym, _∙_}
+use mathlib.Core.Path.{_≡_, _∙_}
 use mathlib.Core.List.{List, [], map}
-use Prim.Native.Nat.{_≤_}
-use native.Mathlib.Omega.{arith}
 use borrow.Author.Needs.{needs}
-use lib.ListN.{length, take}
-use Rattle.laws.specs.Lists.{filled}
+use lib.ListN.{take}
 use Rattle.matching.specs.Lent.{picked}
 use Rattle.pairs.specs.declared.Pair.{Pair}
 use Rattle.passes.specs.Checks.{frame}

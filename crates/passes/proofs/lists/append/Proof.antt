@@ -1,19 +1,21 @@
 -- `passes::lists::append` meets its contract: the array holds the front and the first i of the list.
-use mathlib.Core.Path.{_≡_, ap}
-use mathlib.Core.List.{_++_}
+use mathlib.Core.Path.{_≡_, sym, _∙_, ap}
+use mathlib.Core.List.{[], _∷_, _++_, append-assoc, append-nil}
 use Prim.Native.Nat.{_≤_, _+_, _-_}
+use native.Mathlib.Nat.{add-assoc}
+use native.Mathlib.Numerals.{add-one}
 use native.Mathlib.Omega.{arith}
 use borrow.Author.Needs.{needs}
-use lib.ListN.{length, take, length-map}
-use lib.Seq.{length-take-le}
+use lib.ListN.{length, take, getD, length-append, length-map}
+use lib.Seq.{length-take-le, take-suc}
+use Rattle.laws.proofs.Standing.{Stands, stands-more}
 use Rattle.matching.specs.declared.Numbers.{Numbers}
 use Rattle.passes.specs.Passes.{numbers}
-use Rattle.passes.proofs.Standing.{Stands, appended-none, appended}
 use Rattle.passes.proofs.lists.append.Statement.{statement}
 use Rattle.passes.proofs.lists.append.Tie as tie
 
 abbrev Inv-loop : tie.InvT-loop
-Inv-loop list m at₀ start i₀ at i = (i ≤ m) × Stands (take start at₀ ++ take i list) at (start + i)
+Inv-loop list m at₀ start i₀ at i = (i ≤ m) × Stands 64 (take start at₀ ++ take i list) at (start + i)
 
 abbrev μ-loop : tie.MeasureT-loop
 μ-loop list m at₀ start i₀ at i = m - i
@@ -27,7 +29,9 @@ front-long c =
 loop-holds : tie.Need-loop-holds Inv-loop μ-loop
 loop-holds c =
     let s = c .before in
-    (search needs, appended-none (numbers (s .args .front)) (s .args .list .now) (front-long s) (ap (λ (l : Numbers). l .at) (s .pre .2)))
+    let held : Stands 64 (numbers (s .args .front) ++ []) (s .args .front .at) (s .args .front .count + 0) =
+    rw append-nil (omega (arith, front-long s), ap (λ (l : Numbers). l .at) (s .pre .2)) in
+    (search needs, held)
 
 mul-at : tie.Need-mul-at Inv-loop μ-loop
 mul-at c = search needs
@@ -54,7 +58,15 @@ loop-again : tie.Need-loop-again Inv-loop μ-loop
 loop-again c =
     let s = c .before .before .before .before in
     let loop = c .before .before .loop in
-    (omega arith, appended (numbers (s .args .front)) (s .args .list .now) (s .args .front .count) (loop .i) (front-long s) (omega (arith, s .pre .1)) (omega (arith, s .pre .0)) (loop .inv .1))
+    let front = numbers (s .args .front) in
+    let list = s .args .list .now in
+    let l = take (loop .i) list in
+    let x = getD list (loop .i) 0 in
+    let next : front ++ take (loop .i + 1) list ≡ (front ++ l) ++ (x ∷ []) =
+    rw (add-one (loop .i), take-suc list (loop .i) 0 (omega (arith, s .pre .1))) (sym (append-assoc front l (x ∷ []))) in
+    let long : length (front ++ l) ≡ s .args .front .count + loop .i =
+    rw (length-append front l, front-long s, length-take-le (loop .i) list (omega (arith, s .pre .1))) in
+    (omega arith, rw (next, ← add-assoc (s .args .front .count) (loop .i) 1) (stands-more 64 (front ++ l) x (omega (arith, s .pre .0)) (loop .inv .1)))
 
 add-t16 : tie.Need-add-t16 Inv-loop μ-loop
 add-t16 c = search needs

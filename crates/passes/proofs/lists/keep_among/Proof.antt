@@ -1,19 +1,23 @@
 -- `passes::lists::keep_among` meets its contract: the array holds those of the first i that pass the test.
 use mathlib.Core.Path.{_≡_, refl, _∙_}
-use mathlib.Core.Bool.{Bool, Bool·beq}
+use mathlib.Core.Bool.{Bool, true, false, not, Bool·beq, cond}
+use mathlib.Core.List.{[], _∷_, _++_}
 use mathlib.Core.Logic.{⊎-elim}
-use Prim.Native.Nat.{ℕ, _<_, _≤_, _-_}
+use Prim.Native.Nat.{ℕ, _≤_, _+_, _-_}
+use native.Mathlib.Numerals.{add-one}
 use native.Mathlib.Omega.{arith}
 use borrow.Author.Needs.{needs}
 use lib.ListN.{length, take, getD, length-map}
+use lib.Seq.{length-take-le, take-suc}
 use Rattle.laws.specs.Lists.{keep, holds}
+use Rattle.laws.proofs.Growing.{length-keep}
+use Rattle.laws.proofs.Standing.{Stands, stands-joins, stands-stays}
 use Rattle.passes.specs.Passes.{among}
-use Rattle.passes.proofs.Standing.{Stands, kept-few, kept-joins, kept-stays, among-asked}
 use Rattle.passes.proofs.lists.keep_among.Statement.{statement}
 use Rattle.passes.proofs.lists.keep_among.Tie as tie
 
 abbrev Inv-loop : tie.InvT-loop
-Inv-loop list m wanted from n at₀ count₀ i₀ at count i = (i ≤ n) × Stands (keep (among wanted (take m list)) (take i from)) at count
+Inv-loop list m wanted from n at₀ count₀ i₀ at count i = (i ≤ n) × Stands 64 (keep (among wanted (take m list)) (take i from)) at count
 
 abbrev μ-loop : tie.MeasureT-loop
 μ-loop list m wanted from n at₀ count₀ i₀ at count i = n - i
@@ -38,6 +42,13 @@ whole s = simp length-map at (s .good .0 .1 .1 .0 .1 .0 .1)
 abbrev test : tie.Start Inv-loop μ-loop → ℕ → Bool
 test s = among (s .args .wanted) (take (s .args .m) (s .args .list .now))
 
+-- `among` is how the code compares
+among-asked : (wanted b : Bool) → cond wanted b (not b) ≡ Bool·beq b wanted
+among-asked true true = refl
+among-asked true false = refl
+among-asked false true = refl
+among-asked false false = refl
+
 -- what the call says of the number that the code read
 answered : (c : tie.After-is-among Inv-loop μ-loop) →
     let s = c .before .before .before .before .before in
@@ -46,11 +57,16 @@ answered c =
     let s = c .before .before .before .before .before in
     rw (c .is-among .ensures) (among-asked (s .args .wanted) (holds (getD (s .args .of .at) (c .before .before .loop .i) 0) (take (s .args .m) (s .args .list .now))))
 
+-- as many were looked at as turns are done
+looked : (s : tie.Start Inv-loop μ-loop) (i : ℕ) → i ≤ 64 → length (take i (s .args .of .at)) ≡ i
+looked s i h = length-take-le i (s .args .of .at) (omega (arith, whole s))
+
 -- there is room for one number more
 room : (c : tie.After-is-among Inv-loop μ-loop) → c .before .before .loop .count ≤ 63
 room c =
     let s = c .before .before .before .before .before in
-    omega (arith, whole s, kept-few (test s) (s .args .of .at) (c .before .before .loop .i) (omega (arith, whole s)))
+    let i = c .before .before .loop .i in
+    omega (arith, length-keep (test s) (take i (s .args .of .at)), looked s i (omega arith))
 
 mul-at : tie.Need-mul-at Inv-loop μ-loop
 mul-at c = record { fits = omega (arith, room (c .before)) }
@@ -71,10 +87,14 @@ loop-again : tie.Need-loop-again Inv-loop μ-loop
 loop-again c =
     let s = c .before .before .before .before .before .before in
     let loop = c .before .before .before .loop in
-    let inside : loop .i < length (s .args .of .at) = omega (arith, whole s) in
+    let from = s .args .of .at in
+    let l = take (loop .i) from in
+    let x = getD from (loop .i) 0 in
+    let next : take (loop .i + 1) from ≡ l ++ (x ∷ []) = rw (add-one (loop .i)) (take-suc from (loop .i) 0 (omega (arith, whole s))) in
+    let few = looked s (loop .i) (omega arith) in
     ⊎-elim
-    (λ w. (omega arith, rw (w .1, w .2) (kept-joins (test s) (s .args .of .at) (loop .i) inside (omega arith) (answered (c .before) ∙ w .0 .taken) (loop .inv .1))))
-    (λ w. (omega arith, rw (w .1, w .2) (kept-stays (test s) (s .args .of .at) (loop .i) inside (answered (c .before) ∙ w .0 .left) (loop .inv .1))))
+    (λ w. (omega arith, rw (w .1, w .2, next) (stands-joins 64 (test s) l x (omega arith) (answered (c .before) ∙ w .0 .taken) (loop .inv .1))))
+    (λ w. (omega arith, rw (w .1, w .2, next) (stands-stays 64 (test s) l x (answered (c .before) ∙ w .0 .left) (loop .inv .1))))
     (c .if1 .came)
 
 returns : tie.Need-returns Inv-loop μ-loop
