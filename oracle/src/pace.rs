@@ -80,11 +80,11 @@ fn round(s: &Settings, steps: &[Step], sums: &mut Sums) {
 pub fn run(file: &str) {
     let Ok(text) = std::fs::read_to_string(file) else { fail("the pace file could not be read") };
     let mut words = Reader::new(&text);
-    let rounds = words.word();
+    let (traces, rounds) = (words.word(), words.word());
     let s = settings(&mut words);
     let (refusal, frames) = (words.word(), words.size());
     let steps: Vec<Step> = (0..frames).map(|_| step(&mut words, &s)).collect();
-    if refusal != 0 || !words.ended() {
+    if traces != 0 || refusal != 0 || !words.ended() {
         fail("the pace file is not as it should be");
     }
     let mut sums = Sums::default();

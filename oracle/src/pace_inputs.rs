@@ -148,6 +148,8 @@ pub fn make(name: &str, rounds: u64) -> Vec<u8> {
     let mut fish = school(&mut rng, case.fish);
     let mut fish_of = HashMap::new();
     let mut out = Words::default();
+    // No traces: a pace follows.
+    out.word(0);
     out.word(rounds);
     out.line();
     writing::settings(&mut out, &s, 0, FRAMES);

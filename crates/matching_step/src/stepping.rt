@@ -208,12 +208,12 @@ pub fn match_table(
     if given != 0 {
         return refused(t, given);
     }
-    let records = t.records;
     let decided = decide(t, detections, distances);
     let refusal = checks::decided_refusal(t.config, t.counts, points, decided.left.count);
     if refusal != 0 {
         return refused(t, refusal);
     }
+    let records = t.records;
     let pairs = pairs_of(
         records,
         t.counts.records,

@@ -36,7 +36,7 @@ fn frame(
     third
 }
 
-fn no_pairs() -> [Pair; 40] {
+pub(crate) fn no_pairs() -> [Pair; 40] {
     [Pair {
         detection: 0,
         global_id: 0,

@@ -1,6 +1,7 @@
 // The oracle's answers held against the public calls: reads traces (FORMAT.md), runs each through the calls and prints a line for it, with the first difference.
 mod frames;
 mod holding;
+mod pace;
 mod reading;
 
 use libc::STDOUT_FILENO;
@@ -16,6 +17,10 @@ fn main() {
     let mut storage = [0.0; 55296];
     let mut c = [0usize; 6];
     let traces = reading::few(&mut text, &mut c, 1000000);
+    if traces == 0 {
+        pace::run(&mut text, &mut c);
+        return;
+    }
     let mut sums = [0u64; 2];
     let mut i = 0;
     while i < traces {

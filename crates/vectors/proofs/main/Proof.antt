@@ -16,6 +16,12 @@ large-buffer-requires c κs = search needs
 few-requires : tie.Need-few-requires Inv-loop μ-loop
 few-requires c κs = search needs
 
+run-requires : tie.Need-run-requires Inv-loop μ-loop
+run-requires c κs = search needs
+
+returns : tie.Need-returns Inv-loop μ-loop
+returns c = search needs
+
 loop-holds : tie.Need-loop-holds Inv-loop μ-loop
 loop-holds c = search needs
 
@@ -79,8 +85,8 @@ slice-aggregate-put-3 c = search needs
 put-requires-3 : tie.Need-put-requires-3 Inv-loop μ-loop
 put-requires-3 c κs = search needs
 
-returns : tie.Need-returns Inv-loop μ-loop
-returns c = search needs
+returns-2 : tie.Need-returns-2 Inv-loop μ-loop
+returns-2 c = search needs
 
 pub main-spec : {M : Type 1} → statement M
 main-spec =
@@ -90,6 +96,8 @@ main-spec =
     μ-loop
     large-buffer-requires
     few-requires
+    run-requires
+    returns
     loop-holds
     add-i
     trace-requires
@@ -111,4 +119,4 @@ main-spec =
     array-read-put-2
     slice-aggregate-put-3
     put-requires-3
-    returns)
+    returns-2)

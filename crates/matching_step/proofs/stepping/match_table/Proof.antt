@@ -34,13 +34,13 @@ none-given c = sym (c .before .given-refusal .ensures) ∙ c .if1 .left
 
 decide-requires : tie.Need-decide-requires
 decide-requires c κs =
-    let b = start (c .before .before) in
-    decidable (b .args .t) (length (b .args .s .now)) (b .args .period) (b .args .detections) (lengthsOf (lent b) (b .args .places)) (none-given (c .before))
+    let b = start (c .before) in
+    decidable (b .args .t) (length (b .args .s .now)) (b .args .period) (b .args .detections) (lengthsOf (lent b) (b .args .places)) (none-given c)
 
 -- ---- a refusal once they are decided
 
 abbrev given : tie.After-decide → tie.Else1
-given c = c .before .before
+given c = c .before
 
 came : (c : tie.After-decide) →
     let b = start (given c .before) in
@@ -61,17 +61,17 @@ returns-2 c =
 -- ---- no refusal is due
 
 pairs-of-requires : tie.Need-pairs-of-requires
-pairs-of-requires c κs = pairable (came (c .before .before))
+pairs-of-requires c κs = pairable (came (c .before .before .before))
 
 match-step-requires : tie.Need-match-step-requires
 match-step-requires c κs =
-    let none = c .before .before in
+    let none = c .before .before .before in
     let d = none .before .before in
     let b = start (given d .before) in
     startable (came d) (none .before .decided-refusal .ensures) (none .if2 .left) (simp length-map at (b .good .0 .1 .1 .0 .1 .0 .1))
 
 add-t20 : tie.Need-add-t20
-add-t20 c = omega (arith, pairable (came (c .before .before .before .before .before .before .before .before)) .0)
+add-t20 c = omega (arith, pairable (came (c .before .before .before .before .before .before .before .before .before)) .0)
 
 same-length : tie.Need-same-length
 same-length c = search needs
@@ -80,7 +80,7 @@ returns-3 : tie.Need-returns-3
 returns-3 c =
     let call = c .before .before .before in
     let pairs = call .before .before in
-    let none = pairs .before in
+    let none = pairs .before .before in
     matched-accepted (came (none .before .before)) (none .before .decided-refusal .ensures) (none .if2 .left)
     (pairs .pairs-of .ensures) (call .match-step .ensures .0) (call .match-step .ensures .1)
 
