@@ -2,10 +2,11 @@
 ghost use mathlib.Core.Path.{_≡_};
 ghost use mathlib.Core.List.{_++_};
 ghost use Prim.Native.Nat.{_≤_};
-ghost use lib.ListN.{length, take, drop};
+ghost use lib.ListN.{length, take, drop, replicate};
 ghost use Rattle.passes.specs.Checks.{frame};
 ghost use Rattle.matching_step.specs.Step.{matchedFloats};
 ghost use Rattle.tracker.specs.Calls.{matchAnswer, matchPairs};
+ghost use Rattle.by_value.specs.Room.{noPair};
 use tracker::Answer;
 use tracker::Pair;
 use tracker::Table;
@@ -14,6 +15,18 @@ use tracker::Table;
 pub struct Listed {
     pub pairs: [Pair; 40],
     pub answer: Answer,
+}
+
+// Room for 40 pairs, with none in it.
+pub fn no_pairs() -> [Pair; 40]
+    ensures { λ r. ⌜ r ≡ replicate 40 noPair ⌝ }
+{
+    [Pair {
+        detection: 0,
+        global_id: 0,
+        pass: 0,
+        distance: 0.0,
+    }; 40]
 }
 
 // Step 2, with the first places of the array lent as the pair list.

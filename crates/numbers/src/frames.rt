@@ -3,7 +3,6 @@ ghost use Prim.Native.Nat.{_<_, _≤_};
 use crate::put_or_none;
 use filter::FilterSettings;
 use libc::STDOUT_FILENO;
-use pairs::Pair;
 use parts::ReidCounter;
 use parts::TrackerConfig;
 use table::Table;
@@ -30,15 +29,6 @@ fn settings_with(delay: i32, reid: ReidCounter) -> TrackerConfig {
         has_reid_distance: false,
         filter: FilterSettings::default(),
     }
-}
-
-fn no_pairs() -> [Pair; 40] {
-    [Pair {
-        detection: 0,
-        global_id: 0,
-        pass: 0,
-        distance: 0.0,
-    }; 40]
 }
 
 fn distance(a: f64, b: f64) -> f64 {
@@ -99,7 +89,7 @@ fn frame(t: Table, storage: &mut [f64], period: u32, fish: [f64; 3], n: usize) -
         &scores[..n],
         &has_scores[..n],
         &distances[..n * records],
-        no_pairs(),
+        by_value::no_pairs(),
         40,
     );
     let answer = r.answer;

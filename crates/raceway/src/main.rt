@@ -47,7 +47,7 @@ fn frame(t: Table, storage: &mut [f64; 120], points: [f64; 16], seen: usize) -> 
         &[1.0; 4][..n],
         &[1u8; 4][..n],
         &distances[..near.count],
-        telling::no_pairs(),
+        by_value::no_pairs(),
         32,
     );
     let pairs = matched.pairs;

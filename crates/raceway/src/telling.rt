@@ -16,16 +16,6 @@ fn put_id(name: &[u8], id: u32) {
     put(name, id as u64);
 }
 
-// An empty list of pairs, to lend.
-pub(crate) fn no_pairs() -> [Pair; 40] {
-    [Pair {
-        detection: 0,
-        global_id: 0,
-        pass: 0,
-        distance: 0.0,
-    }; 40]
-}
-
 // The name of a list, which may be empty.
 fn begin(name: &[u8], n: usize) {
     io::write_all(STDOUT_FILENO, name);

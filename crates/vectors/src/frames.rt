@@ -2,7 +2,6 @@
 use crate::holding;
 use crate::reading;
 use crate::reading::FRAME;
-use tracker::Pair;
 use tracker::Table;
 
 // The frames of a trace.
@@ -36,15 +35,6 @@ fn frame(
     third
 }
 
-pub(crate) fn no_pairs() -> [Pair; 40] {
-    [Pair {
-        detection: 0,
-        global_id: 0,
-        pass: 0,
-        distance: 0.0,
-    }; 40]
-}
-
 fn step_2(
     t: Table,
     storage: &mut [f64; 55296],
@@ -72,7 +62,7 @@ fn step_2(
         &scores[..marked],
         &has_scores[..detections],
         &distances[..measured],
-        no_pairs(),
+        by_value::no_pairs(),
         32,
     );
     let answer = matched.answer;

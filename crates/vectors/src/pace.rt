@@ -295,7 +295,7 @@ fn step_2(
         scores,
         part_of_marks(marks, i * 32, detections),
         distances,
-        crate::frames::no_pairs(),
+        by_value::no_pairs(),
         32,
     );
     let pairs = matched.pairs;

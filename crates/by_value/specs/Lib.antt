@@ -1,0 +1,2 @@
+-- Room for pairs.
+pub mod Room
