@@ -20,4 +20,5 @@ pub mod Counted
 pub mod Called
 pub mod Demanded
 pub mod Theorem
+pub mod Borne
 pub mod Examples

@@ -65,7 +65,7 @@ module _ (t : Table) (s : List Float) where
   fewer : length (slotsKept t s) ≤ t .counts .records
   fewer = kept-most (t .config) (t .records) s (t .counts .records)
 
-  objects-after : tableObjects (predictTable t s) ≡ objectsOf (slotsAfter t s)
+  pub objects-after : tableObjects (predictTable t s) ≡ objectsOf (slotsAfter t s)
   unfolding predictTable
   objects-after =
       let after = slotsAfter t s in

@@ -35,7 +35,7 @@ demand-3 c s accepted calls = counting.demand-3 c s accepted calls (sound-whole 
 abbrev pub reported : Day → ℕ
 reported d = totalAnswer (d .world .table) .count
 
-issued-on : (call : Call) (d : Day) → everIssued (goesOn call d) ≡ everIssued d ++ entryOf call (d .world) .issued
+pub issued-on : (call : Call) (d : Day) → everIssued (goesOn call d) ≡ everIssued d ++ entryOf call (d .world) .issued
 issued-on call d = rw (entries-on call d) (gather-snoc (λ (e : Entry). e .issued) _ (entryOf call (d .world)))
 
 module _ (c : TrackerConfig) (s : List Float) (accepted : made c (length s) .refusal ≡ 0) (calls : List Call) (call : Call) where
