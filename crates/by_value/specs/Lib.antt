@@ -1,2 +1,0 @@
--- Room for pairs.
-pub mod Room
