@@ -1,81 +1,57 @@
 -- Rules 45, 46 and 75: over any sequence of calls from a fresh tracker, each record in the table bears the permanent ID that the history issued to it, and none while it initializes.
 use mathlib.Core.Path.{_≡_}
-use mathlib.Core.Bool.{Bool, true, false, not, cond}
+use mathlib.Core.Bool.{Bool}
 use mathlib.Core.List.{List, _++_, List·Memᴰ, List·Memᴰ·head, List·Memᴰ·tail}
 use Prim.Native.Nat.{ℕ, _≤_}
-use lib.Dec.{eqb}
 use lib.Ieee.{Float}
 use lib.ListN.{length}
 use Rattle.laws.specs.Every.{Every, none, one}
-use Rattle.laws.proofs.Every.{every-keep, every-map, every-unmap}
 use Rattle.laws.proofs.Through.{through-hold}
 use Rattle.parts.specs.declared.PermanentId.{PermanentId}
 use Rattle.parts.specs.declared.PermanentId.the-variants.{Unissued, Issued}
 use Rattle.parts.specs.declared.TrackedObject.{TrackedObject}
 use Rattle.parts.specs.declared.TrackerConfig.{TrackerConfig}
-use Rattle.parts.specs.Layout.{blockSize}
-use Rattle.parts.specs.Life.{lifePredicted}
-use Rattle.tracked_object.specs.Object.{objectPredicted}
 use Rattle.table.specs.declared.Table.{Table}
 use Rattle.table.specs.Making.{made}
-use Rattle.table.specs.Slots.{objectsOf, tableSlots, nameOf, tableObjects}
+use Rattle.table.specs.Slots.{nameOf, tableObjects}
 use Rattle.table.proofs.MakingLaws.{accepted-fresh}
-use Rattle.table.proofs.SlotLaws.{slots-objects}
-use Rattle.predict.specs.Step.{gone, slotPredicted, predictTable, dropped}
-use Rattle.matching_step.specs.Step.{accepted, matchTable}
-use Rattle.matching_step.specs.Account.{Issue, matchAccount}
-use Rattle.matching_step.proofs.Bearing.{issue, Standing, waits, has, Borne, borne-on}
+use Rattle.predict.specs.Step.{predictTable}
+use Rattle.matching_step.specs.Account.{Issue, issue, Standing, waits, has, Borne}
+use Rattle.matching_step.proofs.Bearing.{borne-on}
 use Rattle.matching_step.proofs.AccountLaws.{table-borne}
-use Rattle.reid.specs.Step.{reidTable, absorbed}
+use Rattle.reid.specs.Step.{reidTable}
 use Rattle.reid.proofs.StepLaws.{nameIn, every-stays}
-use Rattle.tracker.specs.Calls.{predictRefusal, predictAnswer, matchAnswer, reidAccepted, reidAnswer}
-use Rattle.ledger.specs.History.{Call, predict, match, reid, total, current, World, after, Entry, nothing, droppedBy, matchedBy, absorbedBy, entryOf, Day, goesOn, fresh, dayOf}
+use Rattle.ledger.specs.History.{Call, predict, match, reid, total, current, World, after, did, entryOf, Day, goesOn, fresh, dayOf}
 use Rattle.ledger.specs.Demand.{everIssued}
-use Rattle.ledger.proofs.Predicted.{objects-after}
+use Rattle.ledger.proofs.Calling.{done, called}
+use Rattle.ledger.proofs.Predicted.{everyone-stays}
 use Rattle.ledger.proofs.Sound.{sound-most}
 use Rattle.ledger.proofs.SoundAfter.{Reached, reached-fresh, reached-after}
 use Rattle.ledger.proofs.Theorem.{issued-on}
 
 -- ---- one call
 
--- refused: nothing issued, and the table as it was
-if-accepted : {issued : List Issue} (t : Table) → Borne issued (tableObjects t) → (b : Bool) (e : Entry) (u : Table)
-    → Borne (issued ++ e .issued) (tableObjects u) → Borne (issued ++ cond b e nothing .issued) (tableObjects (cond b u t))
-if-accepted t old true e u new = new
-if-accepted t old false e u new = borne-on _ old
-
 module _ (issued : List Issue) (t : Table) (s : List Float) (most : t .counts .records ≤ length (t .records)) (borne : Borne issued (tableObjects t)) where
   -- predicting changes neither name, mark nor ID
   predict-borne : Borne issued (tableObjects (predictTable t s))
-  unfolding objectPredicted lifePredicted
-  predict-borne =
-      let before : Borne issued (objectsOf (tableSlots t s)) = rw (slots-objects (blockSize (t .config)) (t .records) s (t .counts .records) most) borne in
-      rw (objects-after t s)
-      (every-map (λ x. x .object)
-      (every-map (slotPredicted (t .config))
-      (every-keep (λ x. not (gone (t .config) (x .object))) (every-unmap (λ x. x .object) (tableSlots t s) before))))
+  predict-borne = everyone-stays t s most (λ v. Standing issued (nameIn v) (v .initializing) (v .id)) borne
 
   -- merging neither
   reid-borne : (ds : List Float) → Borne issued (tableObjects (reidTable t s ds))
   reid-borne ds = every-stays t s ds most (λ v. Standing issued (nameIn v) (v .initializing) (v .id)) borne
 
+borne-did : (issued : List Issue) (call : Call) (w : World) → w .table .counts .records ≤ length (w .table .records)
+    → Borne issued (tableObjects (w .table)) → Borne (issued ++ did call w (done call w) .issued) (tableObjects (done call w .table))
+borne-did issued predict w most old = borne-on _ (predict-borne issued (w .table) (w .storage) most old)
+borne-did issued (match n f l) w most old = table-borne (w .table) (w .storage) n f most issued old
+borne-did issued (reid ds l) w most old = borne-on _ (reid-borne issued (w .table) (w .storage) most old ds)
+borne-did issued total w most old = borne-on _ old
+borne-did issued current w most old = borne-on _ old
+
 borne-called : (issued : List Issue) (call : Call) (w : World) → w .table .counts .records ≤ length (w .table .records)
     → Borne issued (tableObjects (w .table)) → Borne (issued ++ entryOf call w .issued) (tableObjects (after call w .table))
-unfolding after entryOf predictAnswer matchAnswer reidAnswer
-borne-called issued predict w most old =
-    let t = w .table in
-    let s = w .storage in
-    if-accepted t old (eqb (predictRefusal t s) 0) (droppedBy (dropped t s)) (predictTable t s) (borne-on _ (predict-borne issued t s most old))
-borne-called issued (match n f l) w most old =
-    let t = w .table in
-    let s = w .storage in
-    if-accepted t old (accepted t s n f (length l)) (matchedBy n (matchAccount t s n f)) (matchTable t s n f) (table-borne t s n f most issued old)
-borne-called issued (reid ds l) w most old =
-    let t = w .table in
-    let s = w .storage in
-    if-accepted t old (reidAccepted t s ds (length l)) (absorbedBy (absorbed t s ds)) (reidTable t s ds) (borne-on _ (reid-borne issued t s most old ds))
-borne-called issued total w most old = borne-on _ old
-borne-called issued current w most old = borne-on _ old
+borne-called issued call w most old =
+    called (λ e u. Borne (issued ++ e .issued) (tableObjects (u .table))) call w (borne-on _ old) (λ accepted. borne-did issued call w most old)
 
 -- ---- a day
 
@@ -84,6 +60,7 @@ record Kept (d : Day) : Type 0 where
   borne : Borne (everIssued d) (tableObjects (d .world .table))
 
 kept-on : (call : Call) (d : Day) → Kept d → Kept (goesOn call d)
+unfolding goesOn
 kept-on call d k =
     record {
       reached = reached-after call (d .world) (k .reached);

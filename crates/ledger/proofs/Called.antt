@@ -1,10 +1,7 @@
 -- Rule 75: whatever the call, and whether it is accepted or refused, its entry is fair; so every sequence of calls from a fresh tracker is counted.
 use mathlib.Core.Path.{_≡_, refl}
-use mathlib.Core.Bool.{Bool, true, false, cond}
 use mathlib.Core.List.{List, []}
 use native.Mathlib.Omega.{arith}
-use borrow.Author.Tests.{eqb-true}
-use lib.Dec.{eqb}
 use lib.Ieee.{Float}
 use lib.ListN.{length}
 use Rattle.laws.specs.Every.{none}
@@ -12,16 +9,13 @@ use Rattle.laws.specs.Lists.{keep, times, weight}
 use Rattle.laws.proofs.Weighing.{ended}
 use Rattle.laws.proofs.Through.{through-hold}
 use Rattle.parts.specs.declared.TrackerConfig.{TrackerConfig}
-use Rattle.table.specs.declared.Table.{Table}
 use Rattle.table.specs.Making.{settled, freshTable, made}
 use Rattle.table.proofs.MakingLaws.{accepted-fresh}
-use Rattle.predict.specs.Step.{predictTable, dropped}
-use Rattle.matching_step.specs.Step.{matchRefusal, accepted, matchTable}
-use Rattle.matching_step.specs.Account.{matchAccount}
-use Rattle.reid.specs.Step.{reidTable, absorbed}
-use Rattle.tracker.specs.Calls.{predictRefusal, predictAnswer, matchAnswer, reidAccepted, reidAnswer}
-use Rattle.ledger.specs.History.{Call, predict, match, reid, total, current, World, after, Entry, nothing, droppedBy, matchedBy, absorbedBy, entryOf, Day, goesOn, fresh, dayOf}
+use Rattle.matching_step.specs.Step.{listedPairs}
+use Rattle.tracker.specs.Calls.{listedActive}
+use Rattle.ledger.specs.History.{Call, predict, match, reid, total, current, World, after, refusalOf, did, entryOf, Day, goesOn, fresh, dayOf}
 use Rattle.ledger.specs.Demand.{gather, entries}
+use Rattle.ledger.proofs.Calling.{done, called}
 use Rattle.ledger.proofs.Entries.{entries-on}
 use Rattle.ledger.proofs.Fairness.{Ordered, Fairly, fairly-still}
 use Rattle.ledger.proofs.Predicted.{fairly-predicted}
@@ -31,28 +25,16 @@ use Rattle.ledger.proofs.Counted.{Counted, counted-on}
 
 -- ---- one call
 
--- refused: nothing, and the table as it was
-if-accepted : {t : Table} → Ordered t → (b : Bool) (e : Entry) (u : Table) → (b ≡ true → Fairly t e u) → Fairly t (cond b e nothing) (cond b u t)
-if-accepted o true e u fair = fair refl
-if-accepted {t = t} o false e u fair = fairly-still t o
+fairly-did : (call : Call) (w : World) → Ordered (w .table) → refusalOf call w ≡ 0 → Fairly (w .table) (did call w (done call w)) (done call w .table)
+fairly-did predict w o accepted = fairly-predicted (w .table) (w .storage) o
+fairly-did (match n f l) w o accepted =
+    fairly-matched (w .table) (w .storage) n f o (length l) accepted (listedPairs (w .table) (w .storage) n f (length l))
+fairly-did (reid ds l) w o accepted = fairly-merged (w .table) (w .storage) ds o (listedActive (w .table) (w .storage) ds (length l))
+fairly-did total w o accepted = fairly-still (w .table) o
+fairly-did current w o accepted = fairly-still (w .table) o
 
 pub fairly-called : (call : Call) (w : World) → Ordered (w .table) → Fairly (w .table) (entryOf call w) (after call w .table)
-unfolding after entryOf predictAnswer matchAnswer reidAnswer
-fairly-called predict w o =
-    let t = w .table in
-    let s = w .storage in
-    if-accepted o (eqb (predictRefusal t s) 0) (droppedBy (dropped t s)) (predictTable t s) (λ e. fairly-predicted t s o)
-fairly-called (match n f l) w o =
-    let t = w .table in
-    let s = w .storage in
-    if-accepted o (accepted t s n f (length l)) (matchedBy n (matchAccount t s n f)) (matchTable t s n f)
-    (λ e. fairly-matched t s n f o (length l) (eqb-true (matchRefusal t s n f (length l)) 0 e))
-fairly-called (reid d l) w o =
-    let t = w .table in
-    let s = w .storage in
-    if-accepted o (reidAccepted t s d (length l)) (absorbedBy (absorbed t s d)) (reidTable t s d) (λ e. fairly-merged t s d o)
-fairly-called total w o = fairly-still (w .table) o
-fairly-called current w o = fairly-still (w .table) o
+fairly-called call w o = called (λ e u. Fairly (w .table) e (u .table)) call w (fairly-still (w .table) o) (fairly-did call w o)
 
 -- ---- a day
 
@@ -60,6 +42,7 @@ abbrev pub Kept : Day → Type 0
 Kept d = Counted (entries d) (d .world .table)
 
 pub kept-on : (call : Call) (d : Day) → Kept d → Kept (goesOn call d)
+unfolding goesOn
 kept-on call d k = rw (entries-on call d) (counted-on k (fairly-called call (d .world) (k .ordered)))
 
 fresh-counted : (c : TrackerConfig) → Counted [] (freshTable c)
@@ -68,13 +51,17 @@ fresh-counted c =
     record {
       ordered = record { long = refl; fit = omega arith; apart = λ x. omega arith };
       opened-run = ended;
+      globals-run = ended;
       issued-run = ended;
       opened-count = refl;
-      global-next = refl;
       placed = λ x. refl;
       weighed = λ w. omega arith;
       detections = none;
       records = none;
+      hit = none;
+      known = none;
+      dropped = none;
+      absorbed = none;
     }
 
 module _ (c : TrackerConfig) (s : List Float) (made-well : made c (length s) .refusal ≡ 0) where

@@ -23,10 +23,9 @@ use Rattle.matching_step.specs.Step.{firstHits, secondHits, toOpen, afterFirst,
 use Rattle.matching_step.specs.Account.{matchAccount}
 use Rattle.reid.specs.Step.{merges, slotsMerged, slotsStaying, reidTable, reidFloats, absorbed}
 use Rattle.tracker.specs.Calls.{predictAnswer, predictStorage, matchAnswer, reidAnswer, reidStorage}
-use Rattle.ledger.specs.History.{after, entryOf, joined, dayOf}
+use Rattle.ledger.specs.History.{after, refusalOf, entryOf, joined, waiting, goesOn, dayOf}
 use Rattle.ledger.specs.Demand.{gather, entries, everOpened}
 use Rattle.ledger.specs.Examples.{settings, half, far, meeting, floats, untilTooMany, tooMany, carryingOn}
-use Rattle.ledger.proofs.SoundRefusals.{refusalOf}
 
 -- record 1 is candidate and old one: it leaves
 pub own-old-one : (tableNames (reidTable (meeting (0 ∷ []) (0 ∷ [])) floats (half ∷ [])) ≡ 2 ∷ [])
@@ -43,11 +42,11 @@ absorb-each-other = (refl, refl)
 -- ---- room for one record: the frame that asks for two more is refused with 13, and the day goes on
 
 pub too-many : refusalOf tooMany (dayOf (settings 1) (replicate 8 f0) untilTooMany .world) ≡ 13
-unfolding dayOf through after made firstDue settingsInRange reidBetween wholeTable countsWhole recordsWhole recordWhole pointsWhole agesWhole listsWhole namesBelow any keep below slots blocksOf predictAnswer predictStorage predictTable predictFloats objectPredicted lifePredicted pointsFallen turns matchAnswer matchedFloats matchTable matchFloats firstHits secondHits toOpen afterFirst afterSecond afterOpening firstPass secondPass greedy pickThen scanRows scanRow smaller finite lt ofBits objectOpened lifeOpened flagsSet blockOpened reidAnswer reidStorage reidTable reidFloats slotsStaying slotsMerged merges withCoordinate
+unfolding dayOf goesOn joined waiting through after entryOf made firstDue settingsInRange reidBetween wholeTable countsWhole recordsWhole recordWhole pointsWhole agesWhole listsWhole namesBelow any keep below slots blocksOf predictAnswer predictStorage predictTable predictFloats objectPredicted lifePredicted pointsFallen turns matchAnswer matchedFloats matchTable matchFloats firstHits secondHits toOpen afterFirst afterSecond afterOpening firstPass secondPass greedy pickThen scanRows scanRow smaller finite lt ofBits objectOpened lifeOpened flagsSet blockOpened reidAnswer reidStorage reidTable reidFloats slotsStaying slotsMerged merges withCoordinate
 too-many = refl
 
 -- one record was ever opened, and the frame that follows hits it in pass 2
 pub carrying-on : (everOpened (dayOf (settings 1) (replicate 8 f0) carryingOn) ≡ 1 ∷ [])
     × (gather (λ e. map (λ h. h .name) (e .second)) (entries (dayOf (settings 1) (replicate 8 f0) carryingOn)) ≡ 1 ∷ [])
-unfolding dayOf through after entryOf joined gather gathered matchAccount dropped absorbed made firstDue settingsInRange reidBetween wholeTable countsWhole recordsWhole recordWhole pointsWhole agesWhole listsWhole namesBelow any keep below slots blocksOf predictAnswer predictStorage predictTable predictFloats objectPredicted lifePredicted pointsFallen turns matchAnswer matchedFloats matchTable matchFloats firstHits secondHits toOpen afterFirst afterSecond afterOpening firstPass secondPass greedy pickThen scanRows scanRow smaller finite lt ofBits objectOpened lifeOpened flagsSet blockOpened reidAnswer reidStorage reidTable reidFloats slotsStaying slotsMerged merges withCoordinate
+unfolding dayOf goesOn joined waiting through after entryOf gather gathered matchAccount dropped absorbed made firstDue settingsInRange reidBetween wholeTable countsWhole recordsWhole recordWhole pointsWhole agesWhole listsWhole namesBelow any keep below slots blocksOf predictAnswer predictStorage predictTable predictFloats objectPredicted lifePredicted pointsFallen turns matchAnswer matchedFloats matchTable matchFloats firstHits secondHits toOpen afterFirst afterSecond afterOpening firstPass secondPass greedy pickThen scanRows scanRow smaller finite lt ofBits objectOpened lifeOpened flagsSet blockOpened reidAnswer reidStorage reidTable reidFloats slotsStaying slotsMerged merges withCoordinate
 carrying-on = (refl, refl)

@@ -9,6 +9,7 @@ pub mod SoundPredict
 pub mod SoundMatch
 pub mod SoundReid
 pub mod SoundIssued
+pub mod Calling
 pub mod SoundAfter
 pub mod SoundRefusals
 pub mod Entries
@@ -21,4 +22,6 @@ pub mod Called
 pub mod Demanded
 pub mod Theorem
 pub mod Borne
+pub mod Seen
+pub mod Shown
 pub mod Examples

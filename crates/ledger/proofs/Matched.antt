@@ -1,6 +1,6 @@
 -- Rule 75, step 2: its entry is fair, if it was accepted.
-use mathlib.Core.Path.{_≡_, sym, _∙_, ap}
-use mathlib.Core.List.{List, _++_, map, map-append, map-map}
+use mathlib.Core.Path.{_≡_, refl, sym, _∙_, ap}
+use mathlib.Core.List.{List, [], _++_, map, map-append, map-map}
 use Prim.Native.Nat.{ℕ, _+_, _≤_}
 use native.Mathlib.Omega.{arith}
 use lib.Ieee.{Float}
@@ -11,15 +11,16 @@ use Rattle.table.specs.declared.Table.{Table}
 use Rattle.table.specs.Making.{zeroObject}
 use Rattle.table.specs.Slots.{nameOf, tableNames}
 use Rattle.table.proofs.SlotLaws.{records-length}
+use Rattle.pairs.specs.declared.Pair.{Pair}
 use Rattle.passes.specs.Checks.{Frame}
 use Rattle.matching_step.specs.Step.{afterOpening, matchTable, matchRefusal}
-use Rattle.matching_step.specs.Account.{matchAccount}
+use Rattle.matching_step.specs.Account.{openedNames, matchAccount}
 use Rattle.matching_step.proofs.Readiness.{ready}
-use Rattle.matching_step.proofs.AccountLaws.{openedNames, fair, opened-length, slots-after, records-after, opened-after, global-after, table-names, table-moved}
+use Rattle.matching_step.proofs.AccountLaws.{fair, opened-length, slots-after, records-after, opened-after, table-names, table-moved}
 use Rattle.matching_step.proofs.PairLaws.{recordAt, places-below, named-by-place, each-detection-once, no-place-twice}
 use Rattle.laws.proofs.Growing.{take-each}
-use Rattle.ledger.specs.History.{matchedBy}
-use Rattle.ledger.specs.Demand.{detectionsOf, recordsOf}
+use Rattle.ledger.specs.History.{Entry, matchedBy}
+use Rattle.ledger.specs.Demand.{Same, Among, detectionsOf, hitBy, recordsOf}
 use Rattle.laws.proofs.Weights.{read-below}
 use Rattle.ledger.proofs.Fairness.{Ordered, within, Fairly}
 
@@ -38,16 +39,20 @@ module _ (t : Table) (s : List Float) (n : ℕ) (f : Frame) (o : Ordered t) wher
       rw (named-by-place t s n f, ← names-at)
       (read-below (places-below t n f) (no-place-twice t n f (o .apart)) (λ i. nameOf (recordAt t i)) x)
 
-  records : (x : ℕ) → times x (recordsOf (matchedBy n (matchAccount t s n f))) ≤ times x (tableNames (matchTable t s n f))
-  records x =
-      let a = matchAccount t s n f in
-      let first = map (λ h. h .name) (a .first) in
-      let second = map (λ h. h .name) (a .second) in
-      let hit = rw (map-append (λ h. h .name) (a .first) (a .second)) at (hit-names x) in
-      rw (table-names t s n f (within o))
-      (omega (arith, hit, three x first second (openedNames (a .opened)), times-append x first second, times-append x (tableNames t) (openedNames (a .opened))))
+  abbrev entry : List Pair → Entry
+  entry pairs = matchedBy t (matchTable t s n f) n (matchAccount t s n f) pairs
 
-  detections : (x : ℕ) → times x (detectionsOf (matchedBy n (matchAccount t s n f))) ≡ times x (below n)
+  -- who was hit stood in the table
+  hit : Among (hitBy (entry [])) (tableNames t)
+  hit x = rw (map-append (λ h. h .name) (matchAccount t s n f .first) (matchAccount t s n f .second)) at (hit-names x)
+
+  records : Among (recordsOf (entry [])) (tableNames (matchTable t s n f))
+  records x =
+      let opened = openedNames (matchAccount t s n f .opened) in
+      rw (table-names t s n f (within o))
+      (omega (arith, hit x, times-append x (hitBy (entry [])) opened, times-append x (tableNames t) opened))
+
+  detections : Same (detectionsOf (entry [])) (below n)
   detections x =
       let a = matchAccount t s n f in
       three x (map (λ h. h .detection) (a .first)) (map (λ h. h .detection) (a .second)) (map (λ o. o .detection) (a .opened))
@@ -68,17 +73,21 @@ module _ (t : Table) (s : List Float) (n : ℕ) (f : Frame) (o : Ordered t) wher
           apart = λ x. omega arith;
         }
 
-    pub fairly-matched : Fairly t (matchedBy n (matchAccount t s n f)) (matchTable t s n f)
+    pub fairly-matched : (pairs : List Pair) → Fairly t (matchedBy t (matchTable t s n f) n (matchAccount t s n f) pairs) (matchTable t s n f)
     unfolding matchTable times
-    fairly-matched =
+    fairly-matched pairs =
         record {
           ordered = ordered;
+          before = refl;
           opened-run = fair t s n f .names-run;
+          globals-run = fair t s n f .globals-run;
           issued-run = fair t s n f .numbers-run;
           opened = opened-after t s n f;
-          global = global-after t s n f;
           placed = λ x. rw (table-names t s n f (within o)) (omega (arith, times-append x (tableNames t) (openedNames (matchAccount t s n f .opened))));
           moved = λ w. omega (arith, table-moved t s n f (within o) w);
           detections = detections;
           records = records;
+          hit = hit;
+          dropped = λ once x. refl;
+          absorbed = λ once x. refl;
         }

@@ -1,5 +1,5 @@
 -- Rule 75, step 1: its entry is fair, and after it no place is listed twice for the passes.
-use mathlib.Core.Path.{_≡_, sym, _∙_}
+use mathlib.Core.Path.{_≡_, refl, sym, _∙_}
 use mathlib.Core.Bool.{Bool, true, false, not, _&&_, and-false}
 use mathlib.Core.List.{List, [], map-map}
 use Prim.Native.Nat.{ℕ, _+_, _≤_}
@@ -19,18 +19,20 @@ use Rattle.parts.specs.Life.{lifePredicted}
 use Rattle.tracked_object.specs.Object.{objectPredicted}
 use Rattle.table.specs.declared.Table.{Table}
 use Rattle.table.specs.Making.{zeroObject}
-use Rattle.table.specs.Slots.{Slot, objectsOf, tableSlots, nameOf}
+use Rattle.table.specs.Slots.{Slot, objectsOf, tableSlots, nameOf, tableObjects, tableNames, tableInitializing}
 use Rattle.table.proofs.SlotLaws.{objects-length, slots-objects, records-length}
 use Rattle.predict.specs.declared.Sort.the-variants.{Alive, Initializing}
-use Rattle.predict.specs.Step.{gone, eachPredicted, slotsKept, slotsAfter, predictTable, dropped}
+use Rattle.predict.specs.Step.{gone, slotPredicted, eachPredicted, slotsKept, slotsAfter, predictTable, dropped}
 use Rattle.predict.proofs.Dropping.{kept-most}
 use Rattle.predict.proofs.Predicting.{predicted-length}
 use Rattle.predict.proofs.StepLaws.{fair, listed, membership, listed-once, opened-stay, permanent-stay, global-stay, initializing-stay}
 use Rattle.matching_step.proofs.AccountLaws.{initializingNames}
-use Rattle.table.specs.Slots.{tableInitializing}
-use Rattle.table.specs.Slots.{tableObjects}
 use Rattle.laws.proofs.Weights.{kept-lighter}
-use Rattle.ledger.proofs.Fairness.{Ordered, within, leaving, Fairly, fairly-leaving}
+use Rattle.laws.specs.Every.{Every}
+use Rattle.laws.proofs.Every.{every-keep, every-map, every-unmap}
+use Rattle.reid.proofs.StepLaws.{Who, who}
+use Rattle.ledger.specs.History.{droppedBy}
+use Rattle.ledger.proofs.Fairness.{Ordered, within, Fairly, who-left, fairly-letting}
 
 -- ---- who is initializing
 
@@ -72,6 +74,18 @@ module _ (t : Table) (s : List Float) where
       take-at (objectsOf after) (drop (length after) (t .records)) (length (slotsKept t s))
       (objects-length after ∙ predicted-length (t .config) (slotsKept t s))
 
+  -- what is so of everyone, by IDs, initial period and mark, stays so
+  pub everyone-stays : t .counts .records ≤ length (t .records) → (P : Who → Type 0) → Every (λ o. P (who o)) (tableObjects t)
+      → Every (λ o. P (who o)) (tableObjects (predictTable t s))
+  unfolding objectPredicted lifePredicted
+  everyone-stays most P all =
+      let before : Every (λ o. P (who o)) (objectsOf (tableSlots t s)) =
+      rw (slots-objects (blockSize (t .config)) (t .records) s (t .counts .records) most) all in
+      rw objects-after
+      (every-map (λ x. x .object)
+      (every-map (slotPredicted (t .config))
+      (every-keep (λ x. not (gone (t .config) (x .object))) (every-unmap (λ x. x .object) (tableSlots t s) before))))
+
   module _ (o : Ordered t) where
     ordered : Ordered (predictTable t s)
     unfolding predictTable
@@ -92,10 +106,10 @@ module _ (t : Table) (s : List Float) where
         )
         (kept-lighter w (λ y. nameOf (y .object)) (λ y. y .object .life .«is_initializing») (λ y. not (gone (t .config) (y .object))) (tableSlots t s))
 
-    pub fairly-predicted : Fairly t (leaving (dropped t s) []) (predictTable t s)
+    pub fairly-predicted : Fairly t (droppedBy t (predictTable t s) (dropped t s)) (predictTable t s)
     unfolding times
     fairly-predicted =
-        fairly-leaving t (predictTable t s) (dropped t s) []
+        fairly-letting 1 t (predictTable t s) (dropped t s) [] []
         ordered
         (initializing-stay t s)
         (permanent-stay t s)
@@ -103,3 +117,5 @@ module _ (t : Table) (s : List Float) where
         (global-stay t s)
         (λ x. omega (arith, fair t s (within o) x))
         lighter
+        (who-left (tableNames t) (tableNames (predictTable t s)) (dropped t s) (fair t s (within o)))
+        (λ once x. refl)

@@ -9,21 +9,12 @@ use lib.ListN.{length}
 use Rattle.parts.specs.declared.TrackerConfig.{TrackerConfig}
 use Rattle.table.specs.declared.Table.{Table}
 use Rattle.table.specs.Making.{made}
-use Rattle.table.specs.Refusals.{Check, check, firstDue, countChecks}
+use Rattle.table.specs.Refusals.{Check, check, firstDue}
 use Rattle.table.specs.Wholeness.{wholeTable}
-use Rattle.matching_step.specs.Step.{matchRefusal}
-use Rattle.tracker.specs.Calls.{predictRefusal, reidRefusal, totalAnswer}
-use Rattle.ledger.specs.History.{Call, predict, match, reid, total, current, World, dayOf}
+use Rattle.tracker.specs.Calls.{totalAnswer}
+use Rattle.ledger.specs.History.{Call, predict, match, reid, total, current, World, refusalOf, dayOf}
 use Rattle.ledger.proofs.Sound.{Sound, sound-whole}
 use Rattle.ledger.proofs.SoundAfter.{reached-day}
-
--- the number that a call is refused with
-abbrev pub refusalOf : Call → World → ℕ
-refusalOf predict w = predictRefusal (w .table) (w .storage)
-refusalOf (match n f l) w = matchRefusal (w .table) (w .storage) n f (length l)
-refusalOf (reid ds l) w = reidRefusal (w .table) (w .storage) ds (length l)
-refusalOf total w = firstDue (countChecks (w .table))
-refusalOf current w = firstDue (countChecks (w .table))
 
 -- no check has the number 5
 abbrev NoneFive : List Check → Type 0

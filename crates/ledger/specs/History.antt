@@ -9,13 +9,15 @@ use Rattle.laws.specs.Turns.{through}
 use Rattle.parts.specs.declared.TrackerConfig.{TrackerConfig}
 use Rattle.table.specs.declared.Table.{Table}
 use Rattle.table.specs.Making.{made}
+use Rattle.table.specs.Refusals.{firstDue, countChecks}
+use Rattle.table.specs.Slots.{tableNames}
 use Rattle.pairs.specs.declared.Pair.{Pair}
 use Rattle.predict.specs.Step.{dropped}
 use Rattle.passes.specs.Checks.{Frame}
-use Rattle.matching_step.specs.Step.{accepted, matchedFloats}
+use Rattle.matching_step.specs.Step.{matchRefusal, listedPairs, matchedFloats}
 use Rattle.matching_step.specs.Account.{Hit, Opened, Issue, Account, matchAccount}
 use Rattle.reid.specs.Step.{Absorbed, absorbed}
-use Rattle.tracker.specs.Calls.{predictRefusal, predictAnswer, predictStorage, matchAnswer, reidAccepted, reidAnswer, reidStorage}
+use Rattle.tracker.specs.Calls.{predictRefusal, predictAnswer, predictStorage, matchAnswer, reidRefusal, listedActive, reidAnswer, reidStorage}
 
 -- ---- a public call, with all that the host lends beside table and storage
 
@@ -52,9 +54,22 @@ after (reid d l) w =
 after total w = w
 after current w = w
 
--- ---- what a call did: its step's account; nothing if it was refused
+-- the number that a call is refused with; 0 if it is accepted
+abbrev pub refusalOf : Call → World → ℕ
+refusalOf predict w = predictRefusal (w .table) (w .storage)
+refusalOf (match n f l) w = matchRefusal (w .table) (w .storage) n f (length l)
+refusalOf (reid d l) w = reidRefusal (w .table) (w .storage) d (length l)
+refusalOf total w = firstDue (countChecks (w .table))
+refusalOf current w = firstDue (countChecks (w .table))
+
+-- ---- what a call did, by its step's account, and what it listed for the host. Records are named by initializing ID
 
 pub record Entry : Type 0 where
+  -- the step that was accepted: 1, 2 or 3; 0 of a refused call and of a count
+  pub step : ℕ
+  -- who was in the table before the call, and who is in it after
+  pub before : List ℕ
+  pub now : List ℕ
   pub dropped : List ℕ
   -- of an accepted step 2 the number of its detections
   pub detections : ℕ
@@ -63,61 +78,108 @@ pub record Entry : Type 0 where
   pub opened : List Opened
   pub issued : List Issue
   pub absorbed : List Absorbed
+  -- what the host was told: the pair list of step 2, the active list of step 3
+  pub pairs : List Pair
+  pub active : List ℕ
 
-abbrev pub nothing : Entry
-nothing = record { dropped = []; detections = 0; first = []; second = []; opened = []; issued = []; absorbed = [] }
+-- a call that hit and opened nobody, from one table to another
+abbrev pub letting : ℕ → Table → Table → List ℕ → List Absorbed → List ℕ → Entry
+letting step t u dropped absorbed active =
+    record {
+      step = step;
+      before = tableNames t;
+      now = tableNames u;
+      dropped = dropped;
+      detections = 0;
+      first = [];
+      second = [];
+      opened = [];
+      issued = [];
+      absorbed = absorbed;
+      pairs = [];
+      active = active;
+    }
 
-abbrev pub droppedBy : List ℕ → Entry
-droppedBy l = record { dropped = l; detections = 0; first = []; second = []; opened = []; issued = []; absorbed = [] }
+-- a call that did nothing
+abbrev pub nothing : World → Entry
+nothing w = letting 0 (w .table) (w .table) [] [] []
 
-abbrev pub matchedBy : ℕ → Account → Entry
-matchedBy n a =
-    record { dropped = []; detections = n; first = a .first; second = a .second; opened = a .opened; issued = a .issued; absorbed = [] }
+-- step 1
+abbrev pub droppedBy : Table → Table → List ℕ → Entry
+droppedBy t u dropped = letting 1 t u dropped [] []
 
-abbrev pub absorbedBy : List Absorbed → Entry
-absorbedBy l = record { dropped = []; detections = 0; first = []; second = []; opened = []; issued = []; absorbed = l }
+-- step 2
+abbrev pub matchedBy : Table → Table → ℕ → Account → List Pair → Entry
+matchedBy t u n a pairs =
+    record {
+      step = 2;
+      before = tableNames t;
+      now = tableNames u;
+      dropped = [];
+      detections = n;
+      first = a .first;
+      second = a .second;
+      opened = a .opened;
+      issued = a .issued;
+      absorbed = [];
+      pairs = pairs;
+      active = [];
+    }
 
+-- step 3
+abbrev pub absorbedBy : Table → Table → List Absorbed → List ℕ → Entry
+absorbedBy t u absorbed active = letting 3 t u [] absorbed active
+
+-- what an accepted call did from world w to world u
+abbrev pub did : Call → World → World → Entry
+did predict w u = droppedBy (w .table) (u .table) (dropped (w .table) (w .storage))
+did (match n f l) w u =
+    matchedBy (w .table) (u .table) n (matchAccount (w .table) (w .storage) n f) (listedPairs (w .table) (w .storage) n f (length l))
+did (reid d l) w u =
+    absorbedBy (w .table) (u .table) (absorbed (w .table) (w .storage) d) (listedActive (w .table) (w .storage) d (length l))
+did total w u = nothing w
+did current w u = nothing w
+
+-- a refused call did nothing
 unfoldable pub entryOf : Call → World → Entry
-entryOf predict w = cond (eqb (predictRefusal (w .table) (w .storage)) 0) (droppedBy (dropped (w .table) (w .storage))) nothing
-entryOf (match n f l) w =
-    cond (accepted (w .table) (w .storage) n f (length l)) (matchedBy n (matchAccount (w .table) (w .storage) n f)) nothing
-entryOf (reid d l) w =
-    cond (reidAccepted (w .table) (w .storage) d (length l)) (absorbedBy (absorbed (w .table) (w .storage) d)) nothing
-entryOf total w = nothing
-entryOf current w = nothing
+entryOf call w = cond (eqb (refusalOf call w) 0) (did call w (after call w)) (nothing w)
 
 -- ---- the history: frames in order, each with the entries of its calls
 
--- an accepted step 1 begins a frame
-abbrev pub begins : Call → World → Bool
-begins predict w = eqb (predictRefusal (w .table) (w .storage)) 0
-begins (match n f l) w = false
-begins (reid d l) w = false
-begins total w = false
-begins current w = false
-
 pub record Day : Type 0 where
+  -- the entries of calls before the first frame: counts, and calls that were refused
+  pub early : List Entry
   pub frames : List (List Entry)
   pub world : World
 
--- an entry joins the last frame
+-- an accepted step 1 begins a frame
+abbrev pub begins : Entry → Bool
+begins e = eqb (e .step) 1
+
+-- every other entry joins the last frame
 unfoldable pub joined : Entry → List (List Entry) → List (List Entry)
-joined e [] = (e ∷ []) ∷ []
+joined e [] = []
 joined e (f ∷ []) = (f ++ (e ∷ [])) ∷ []
 joined e (f ∷ (g ∷ l)) = f ∷ joined e (g ∷ l)
 
-abbrev pub goesOn : Call → Day → Day
+-- or, where there is none, the early ones
+unfoldable pub waiting : Entry → List (List Entry) → List Entry
+waiting e [] = e ∷ []
+waiting e (f ∷ l) = []
+
+unfoldable pub goesOn : Call → Day → Day
 goesOn call d =
+    let e = entryOf call (d .world) in
     record {
-      frames =
-          cond (begins call (d .world)) (d .frames ++ ((entryOf call (d .world) ∷ []) ∷ [])) (joined (entryOf call (d .world)) (d .frames));
+      early = cond (begins e) (d .early) (d .early ++ waiting e (d .frames));
+      frames = cond (begins e) (d .frames ++ ((e ∷ []) ∷ [])) (joined e (d .frames));
       world = after call (d .world);
     }
 
 -- a fresh tracker of these settings and this storage; an accepted making writes no float
 abbrev pub fresh : TrackerConfig → List Float → Day
-fresh c s = record { frames = []; world = record { table = made c (length s) .table; storage = s } }
+fresh c s = record { early = []; frames = []; world = record { table = made c (length s) .table; storage = s } }
 
--- any list of calls, in any order, accepted or refused
+-- any list of calls, in any order, accepted or refused: what holds of the day after any list holds after each call of a list
 unfoldable pub dayOf : TrackerConfig → List Float → List Call → Day
 dayOf c s calls = through goesOn calls (fresh c s)

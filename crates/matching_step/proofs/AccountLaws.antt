@@ -9,7 +9,6 @@ use lib.ListN.{length, getD, drop, length-append, length-map}
 use lib.Seq.{take-at, map-set-same}
 use lib.Signed.{ltZ}
 use Rattle.laws.specs.Lists.{keep, weight, upFrom}
-use Rattle.laws.specs.Turns.{through}
 use Rattle.matching.specs.Greedy.{Pick}
 use Rattle.parts.specs.declared.Life.{Life}
 use Rattle.parts.specs.declared.Origin.{Origin}
@@ -23,33 +22,18 @@ use Rattle.table.specs.Slots.{Slot, noSlot, objectsOf, tableSlots, nameOf, name
 use Rattle.table.proofs.SlotLaws.{objects-length, slots-length, slots-objects}
 use Rattle.passes.specs.Checks.{Frame}
 use Rattle.matching_step.specs.Step.{State, lentDetection, distanceOf, nextPermanent, issuing, takesId, hitOne, openOne, firstHits, secondHits, toOpen, start, hitAll, openAll, afterFirst, afterSecond, afterOpening, matchTable}
-use Rattle.matching_step.specs.Account.{Opened, Issue, issuedByHit, issuedByHits, openedBy, issuedByOpening, inOpening, matchAccount}
+use Rattle.matching_step.specs.Account.{Opened, Issue, issue, openedNames, openedGlobals, issuedNumbers, issuedNames, Given, given, givenTo, shownBy, Borne, issuedByHit, issuedByHits, openedBy, issuedByOpening, inOpening, matchAccount}
 use Rattle.laws.proofs.Weighing.{weight-append, keep-map, load-snoc, load-set, Run, ended, run-one, run-append, run-up, run-end}
-use Rattle.laws.proofs.Through.{through-keep, gathered-each, gathered-told}
-use Rattle.matching_step.proofs.Bearing.{issue, Borne, borne-on, borne-hit, borne-opening}
+use Rattle.laws.proofs.Through.{gathered-each, gathered-told}
+use Rattle.matching_step.proofs.Bearing.{borne-on, borne-hit, borne-opening}
 
 -- ---- what is read off slots and accounts
-
-abbrev pub globalIds : List Slot → List ℕ
-globalIds l = map (λ s. s .object .origin .«global_id») l
 
 abbrev pub initializingNames : List Slot → List ℕ
 initializingNames l = names (keep (λ s. s .object .life .«is_initializing») l)
 
-abbrev pub openedNames : List Opened → List ℕ
-openedNames l = map (λ o. o .name) l
-
-abbrev pub openedGlobals : List Opened → List ℕ
-openedGlobals l = map (λ o. o .globalId) l
-
-abbrev pub issuedNumbers : List Issue → List ℕ
-issuedNumbers l = map (λ i. i .number) l
-
-abbrev pub issuedNames : List Issue → List ℕ
-issuedNames l = map (λ i. i .name) l
-
-abbrev pub tableGlobals : Table → List ℕ
-tableGlobals t = map (λ o. o .origin .«global_id») (tableObjects t)
+abbrev pub shownIn : List Slot → List Given
+shownIn l = map (λ s. shownBy (s .object)) l
 
 -- ---- hits change nobody's origin: what is read off it stays
 
@@ -61,15 +45,6 @@ module _ (c : TrackerConfig) (f : Frame) (n : ℕ) where
   hit-read g p st =
       map-set-same (λ s. g (s .object .origin)) (st .slots) (p .col) _ noSlot
       (ap g (origin-hit c (lentDetection c f (p .row)) (f .period) (distanceOf f n p) (st .counts .permanent) (getD (st .slots) (p .col) noSlot .object)))
-
-  pub hits-read : {B : Type 0} (g : Origin → B) (l : List Pick) (st : State) → readOff g (through (hitOne c f n) l st .slots) ≡ readOff g (st .slots)
-  hits-read g = through-keep (hitOne c f n) (λ st. readOff g (st .slots)) (hit-read g)
-
-  pub hits-names : (l : List Pick) (st : State) → names (through (hitOne c f n) l st .slots) ≡ names (st .slots)
-  hits-names = hits-read (λ o. o .«initializing_id»)
-
-  pub hits-globals : (l : List Pick) (st : State) → globalIds (through (hitOne c f n) l st .slots) ≡ globalIds (st .slots)
-  hits-globals = hits-read (λ o. o .«global_id»)
 
 -- ---- a record's weight among the initializing goes over to the issued
 
@@ -96,8 +71,7 @@ pub record Fair (a : State) (opened : List Opened) (issued : List Issue) (b : St
   pub names-run : Run (a .counts .initializing) (openedNames opened) (b .counts .initializing)
   pub globals-run : Run (a .counts .global) (openedGlobals opened) (b .counts .global)
   pub numbers-run : Run (a .counts .permanent) (issuedNumbers issued) (b .counts .permanent)
-  pub names-behind : names (b .slots) ≡ names (a .slots) ++ openedNames opened
-  pub globals-behind : globalIds (b .slots) ≡ globalIds (a .slots) ++ openedGlobals opened
+  pub shown-behind : shownIn (b .slots) ≡ shownIn (a .slots) ++ map givenTo opened
   pub moved : (w : ℕ → ℕ)
       → weight w (initializingNames (b .slots)) + weight w (issuedNames issued) ≡ weight w (initializingNames (a .slots)) + weight w (openedNames opened)
   pub borne : (old : List Issue) → Borne old (objectsOf (a .slots)) → Borne (old ++ issued) (objectsOf (b .slots))
@@ -105,12 +79,12 @@ pub record Fair (a : State) (opened : List Opened) (issued : List Issue) (b : St
 -- nobody opened: the slots are others, and the next permanent ID is taken, or not
 fair-unopened : (st : State) (l : List Slot) (took : Bool) (issued : List Issue)
     → Run (st .counts .permanent) (issuedNumbers issued) (nextPermanent took (st .counts .permanent))
-    → names l ≡ names (st .slots) → globalIds l ≡ globalIds (st .slots)
+    → shownIn l ≡ shownIn (st .slots)
     → ((w : ℕ → ℕ) → weight w (initializingNames l) + weight w (issuedNames issued) ≡ weight w (initializingNames (st .slots)))
     → ((old : List Issue) → Borne old (objectsOf (st .slots)) → Borne (old ++ issued) (objectsOf l))
     → Fair st [] issued (record { slots = l; counts = issuing took (st .counts) })
 unfolding weight
-fair-unopened st l took issued run same alike moved borne =
+fair-unopened st l took issued run same moved borne =
     record {
       frames = refl;
       records = omega arith;
@@ -118,18 +92,17 @@ fair-unopened st l took issued run same alike moved borne =
       names-run = ended;
       globals-run = ended;
       numbers-run = run;
-      names-behind = same ∙ sym (append-nil (names (st .slots)));
-      globals-behind = alike ∙ sym (append-nil (globalIds (st .slots)));
+      shown-behind = same ∙ sym (append-nil (shownIn (st .slots)));
       moved = λ w. omega (arith, moved w);
       borne = borne;
     }
 
 fair-stays : (a : State) → Fair a [] [] a
 unfolding weight
-fair-stays a = fair-unopened a (a .slots) false [] ended refl refl (λ w. omega arith) (λ old h. borne-on [] h)
+fair-stays a = fair-unopened a (a .slots) false [] ended refl (λ w. omega arith) (λ old h. borne-on [] h)
 
 -- a list that grew twice
-grown : {A : Type 0} (g : A → ℕ) (k : List ℕ) {m n : List ℕ} (l r : List A) → m ≡ k ++ map g l → n ≡ m ++ map g r → n ≡ k ++ map g (l ++ r)
+grown : {A B : Type 0} (g : A → B) (k : List B) {m n : List B} (l r : List A) → m ≡ k ++ map g l → n ≡ m ++ map g r → n ≡ k ++ map g (l ++ r)
 grown g k l r p q = rw (map-append g l r, ← append-assoc k (map g l) (map g r), ← p) q
 
 fair-joined : (a b c : State) (l m : List Opened) (k n : List Issue) → Fair a l k b → Fair b m n c → Fair a (l ++ m) (k ++ n) c
@@ -141,8 +114,7 @@ fair-joined a b c l m k n p q =
       names-run = rw map-append (run-append (p .names-run) (q .names-run));
       globals-run = rw map-append (run-append (p .globals-run) (q .globals-run));
       numbers-run = rw map-append (run-append (p .numbers-run) (q .numbers-run));
-      names-behind = grown (λ o. o .name) (names (a .slots)) l m (p .names-behind) (q .names-behind);
-      globals-behind = grown (λ o. o .globalId) (globalIds (a .slots)) l m (p .globals-behind) (q .globals-behind);
+      shown-behind = grown givenTo (shownIn (a .slots)) l m (p .shown-behind) (q .shown-behind);
       moved = λ w. simp (map-append, weight-append) (omega (arith, p .moved w, q .moved w));
       borne = λ old h. rw append-assoc at (q .borne (old ++ k) (p .borne old h));
     }
@@ -177,8 +149,7 @@ module _ (c : TrackerConfig) (f : Frame) where
       let took = takesId c (f .period) o in
       fair-unopened st (hitOne c f n p st .slots) took (issuedByHit c f p st)
       (run-issued took (st .counts .permanent) (nameOf o))
-      (hit-read c f n (λ r. r .«initializing_id») p st)
-      (hit-read c f n (λ r. r .«global_id») p st)
+      (hit-read c f n (λ r. given (r .«initializing_id») (r .«global_id»)) p st)
       (λ w. hit-moved w n p st)
       (λ old h. borne-hit c f old st h n p)
 
@@ -192,8 +163,7 @@ module _ (c : TrackerConfig) (f : Frame) where
         names-run = run-one (st .counts .initializing);
         globals-run = run-one (st .counts .global);
         numbers-run = run-issued (isZero (c .«initialization_delay»)) (st .counts .permanent) (st .counts .initializing);
-        names-behind = rw map-append;
-        globals-behind = rw map-append;
+        shown-behind = rw map-append;
         moved = λ w. opening-moved w s d st;
         borne = λ old h. borne-opening c f old st h s d;
       }
@@ -225,10 +195,7 @@ module _ (t : Table) (s : List Float) (d : ℕ) (f : Frame) where
   -- ---- who was opened
 
   pub opened-appended : names (afterOpening t s d f .slots) ≡ names (tableSlots t s) ++ openedNames (matchAccount t s d f .opened)
-  opened-appended = fair .names-behind
-
-  pub globals-appended : globalIds (afterOpening t s d f .slots) ≡ globalIds (tableSlots t s) ++ openedGlobals (matchAccount t s d f .opened)
-  globals-appended = fair .globals-behind
+  opened-appended = simp (map-append, map-map) at (ap (map (λ g. g .name)) (fair .shown-behind))
 
   pub opened-names : openedNames (matchAccount t s d f .opened) ≡ upFrom (t .counts .initializing) (length (matchAccount t s d f .opened))
   opened-names = rw length-map at (run-up (fair .names-run))
@@ -302,8 +269,9 @@ module _ (t : Table) (s : List Float) (d : ℕ) (f : Frame) where
     pub table-names : tableNames (matchTable t s d f) ≡ tableNames t ++ openedNames (matchAccount t s d f .opened)
     table-names = rw (objects-after, ← objects-before) (simp map-map opened-appended)
 
-    pub table-globals : tableGlobals (matchTable t s d f) ≡ tableGlobals t ++ openedGlobals (matchAccount t s d f .opened)
-    table-globals = rw (objects-after, ← objects-before) (simp map-map globals-appended)
+    -- each record with the global ID that it shows
+    pub table-shown : map shownBy (tableObjects (matchTable t s d f)) ≡ map shownBy (tableObjects t) ++ map givenTo (matchAccount t s d f .opened)
+    table-shown = rw (objects-after, ← objects-before) (simp map-map (fair .shown-behind))
 
     pub table-moved : (w : ℕ → ℕ)
         → weight w (tableInitializing (matchTable t s d f)) + weight w (issuedNames (matchAccount t s d f .issued))

@@ -21,24 +21,9 @@ use Rattle.table.specs.Slots.{objectsOf, nameOf}
 use Rattle.passes.specs.Checks.{Frame}
 use Rattle.matching_step.specs.Step.{State, hitOne, openOne}
 use Rattle.table.specs.Slots.{noSlot}
-use Rattle.matching_step.specs.Account.{Issue, issuedByHit, issuedByOpening}
+use Rattle.matching_step.specs.Account.{Issue, issue, issuedByHit, issuedByOpening, Standing, waits, has, Bears, Borne}
 use Rattle.laws.specs.Every.{Every, none, one}
 use Rattle.laws.proofs.Every.{every-append, every-set, every-weaker}
-
-abbrev pub issue : ℕ → ℕ → Issue
-issue number name = record { number = number; name = name }
-
--- by whether it is initializing, and its permanent ID
-pub data Standing (issued : List Issue) (name : ℕ) : Bool → PermanentId → Type 0 where
-  waits : Standing issued name true Unissued
-  has : {k : ℕ} → List·Memᴰ (issue k name) issued → Standing issued name false (Issued k)
-
-abbrev pub Bears : List Issue → ℕ → Life → Type 0
-Bears issued name l = Standing issued name (l .«is_initializing») (l .id)
-
--- each record of a list
-abbrev pub Borne : List Issue → List TrackedObject → Type 0
-Borne issued l = Every (λ o. Bears issued (nameOf o) (o .life)) l
 
 -- what was issued stays issued
 standing-on : (more : List Issue) {issued : List Issue} {name : ℕ} {i : Bool} {d : PermanentId} → Standing issued name i d → Standing (issued ++ more) name i d

@@ -23,7 +23,7 @@ use Rattle.matching_step.specs.Step.{matrixOf, firstHits, secondHits, to
 use Rattle.matching_step.specs.Account.{matchAccount}
 use Rattle.matching_step.proofs.AccountLaws.{opened-detections}
 use Rattle.laws.proofs.Mapped.{map-constant}
-use Rattle.laws.proofs.Every.{every-append, every-weaker, every-alike}
+use Rattle.laws.proofs.Every.{every-append, every-weaker, every-alike, every-map, every-unmap}
 
 -- the record at a place, and the places hit, in hit order
 abbrev pub recordAt : Table → ℕ → TrackedObject
@@ -33,9 +33,17 @@ abbrev pub hitPlaces : Table → ℕ → Frame → List ℕ
 hitPlaces t d f = colsOf (firstHits t d f) ++ colsOf (secondHits t d f)
 
 module _ (t : Table) (d : ℕ) (f : Frame) where
+  -- picks lie in the table
+  pub first-below : Every (λ p. p .col < t .counts .records) (firstHits t d f)
+  unfolding firstHits firstPass
+  first-below = every-unmap (λ p. p .col) _ (taken-below (cols-taken _ _ _))
+
+  pub second-below : Every (λ p. p .col < t .counts .records) (secondHits t d f)
+  unfolding secondHits secondPass
+  second-below = every-unmap (λ p. p .col) _ (taken-below (cols-taken _ _ _))
+
   pub places-below : Every (λ i. i < t .counts .records) (hitPlaces t d f)
-  unfolding firstHits secondHits firstPass secondPass
-  places-below = every-append (taken-below (cols-taken _ _ _)) (taken-below (cols-taken _ _ _))
+  places-below = every-append (every-map (λ p. p .col) first-below) (every-map (λ p. p .col) second-below)
 
   pub pairs-globals : map (λ q. q .«global_id») (pairsOf t d f) ≡ map (λ i. recordAt t i .origin .«global_id») (hitPlaces t d f)
   unfolding pairsOf
@@ -58,8 +66,8 @@ module _ (t : Table) (s : List Float) (d : ℕ) (f : Frame) where
   unfolding pairsOf matchAccount
   pairs-passes = simp (map-append, map-map, length-map) (rw (map-constant {B = ℕ} 1 (firstHits t d f), map-constant {B = ℕ} 2 (secondHits t d f)))
 
-  -- picks lie in the table, so that the slot at a place hit is that of the record there
-  at-place : (i : ℕ) → i < t .counts .records → nameOf (getD (tableSlots t s) i noSlot .object) ≡ nameOf (recordAt t i)
+  -- the slot at a place hit is that of the record there
+  pub at-place : (i : ℕ) → i < t .counts .records → nameOf (getD (tableSlots t s) i noSlot .object) ≡ nameOf (recordAt t i)
   at-place i h = ap (λ (x : Slot). nameOf (x .object)) (slots-at (blockSize (t .config)) (t .records) s (t .counts .records) i noSlot h)
 
   pub named-by-place : map (λ h. h .name) (matchAccount t s d f .first ++ matchAccount t s d f .second) ≡ map (λ i. nameOf (recordAt t i)) (hitPlaces t d f)

@@ -126,6 +126,9 @@ pub record Absorbed : Type 0 where
   pub name : ℕ
   pub hadPermanent : Bool
 
+abbrev pub absorbedNames : List Absorbed → List ℕ
+absorbedNames l = map (λ a. a .name) l
+
 abbrev pub hasPermanent : PermanentId → Bool
 hasPermanent Unissued = false
 hasPermanent (Issued n) = true

@@ -3,4 +3,5 @@ pub mod Readiness
 pub mod Listing
 pub mod Passed
 pub mod Determined
+pub mod Tied
 pub mod Marked
