@@ -21,6 +21,7 @@ pub mod Counted
 pub mod Called
 pub mod Demanded
 pub mod Theorem
+pub mod Frames
 pub mod Borne
 pub mod Seen
 pub mod Shown

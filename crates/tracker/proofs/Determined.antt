@@ -11,32 +11,12 @@ use lib.Ieee.{Float}
 use Rattle.parts.specs.declared.TrackerConfig.{TrackerConfig}
 use Rattle.table.specs.declared.Table.{Table}
 use Rattle.table.specs.declared.Answer.{Answer}
-use Rattle.table.specs.Making.{made}
 use Rattle.pairs.specs.declared.Pair.{Pair}
 use Rattle.passes.specs.Checks.{Frame}
 use Rattle.matching_step.specs.Step.{matchRefusal, listedPairs, matchedFloats}
 use Rattle.tracker.specs.declared.Count.{Count}
-use Rattle.tracker.specs.Calls.{predictRefusal, predictAnswer, predictStorage, matchAnswer, matchPairs, reidRefusal, listedActive, reidAnswer, reidStorage, reidActive, totalAnswer, currentAnswer}
-
--- ---- the statements, as the contracts have them
-
-abbrev pub NewSays : TrackerConfig → List Float → Answer → Type 0
-NewSays c s a = a ≡ made c (length s)
-
-abbrev pub PredictSays : Table → List Float → Answer → List Float → Type 0
-PredictSays t s a s′ = (a ≡ predictAnswer t s) × (s′ ≡ predictStorage t s)
-
-abbrev pub MatchSays : Table → List Float → ℕ → Frame → List Pair → Answer → List Float → List Pair → Type 0
-MatchSays t s n f l a s′ l′ = (a ≡ matchAnswer t s n f (length l)) × (s′ ≡ matchedFloats t s n f (length l)) × (l′ ≡ matchPairs t s n f l)
-
-abbrev pub ReidSays : Table → List Float → List Float → List ℕ → Answer → List Float → List ℕ → Type 0
-ReidSays t s d l a s′ l′ = (a ≡ reidAnswer t s d (length l)) × (s′ ≡ reidStorage t s d (length l)) × (l′ ≡ reidActive t s d l)
-
-abbrev pub TotalSays : Table → Count → Type 0
-TotalSays t n = n ≡ totalAnswer t
-
-abbrev pub CurrentSays : Table → Count → Type 0
-CurrentSays t n = n ≡ currentAnswer t
+use Rattle.tracker.specs.Calls.{predictRefusal, predictAnswer, predictStorage, matchAnswer, matchPairs, reidRefusal, listedActive, reidAnswer, reidStorage, reidActive}
+use Rattle.tracker.specs.Statements.{NewSays, PredictSays, MatchSays, ReidSays, TotalSays, CurrentSays}
 
 -- ---- two results that satisfy a statement coincide
 
