@@ -1,4 +1,4 @@
--- Rule 75, demand 3: from a fresh tracker, over any sequence of calls, after each call.
+-- Rule 75, demand 3: from a fresh tracker, over any sequence of calls, after each call: it is stated of the day after any list of calls, so also after each call of a list.
 use mathlib.Core.Path.{_≡_}
 use mathlib.Core.Bool.{not, cond}
 use mathlib.Core.List.{List, [], _∷_, _++_, map}
