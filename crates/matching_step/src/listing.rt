@@ -32,11 +32,13 @@ pub fn add_pairs(
         let d = rows[i];
         let k = cols[i];
         let o = records[k];
+        let global_id = o.origin.global_id;
+        let distance = distances[d * n + k];
         let pair = Pair {
             detection: d,
-            global_id: o.origin.global_id,
+            global_id,
             pass,
-            distance: distances[d * n + k],
+            distance,
         };
         pairs[start + i] = pair;
         i += 1;

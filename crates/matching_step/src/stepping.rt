@@ -30,15 +30,10 @@ fn decide(t: Table, detections: usize, distances: &[f64]) -> Decided
 {
     let n = t.counts.records;
     let threshold = t.config.distance_threshold;
-    let first = passes::first_pass(distances, detections, n, threshold, t.lists.alive);
-    let second = passes::second_pass(
-        distances,
-        detections,
-        n,
-        threshold,
-        t.lists.initializing,
-        first,
-    );
+    let alive = t.lists.alive;
+    let initializing = t.lists.initializing;
+    let first = passes::first_pass(distances, detections, n, threshold, alive);
+    let second = passes::second_pass(distances, detections, n, threshold, initializing, first);
     let left = lists::left_over(detections, first, second);
     Decided {
         first,
@@ -204,7 +199,8 @@ pub fn match_table(
         distances: distances.len(),
         pairs: places,
     };
-    let given = checks::given_refusal(t, s.len(), period, detections, lengths);
+    let floats = s.len();
+    let given = checks::given_refusal(t, floats, period, detections, lengths);
     if given != 0 {
         return refused(t, given);
     }
@@ -223,9 +219,10 @@ pub fn match_table(
         decided.second,
     );
     let table = match_step(t, s, points, scores, has_scores, distances, period, decided);
+    let count = decided.first.count + decided.second.count;
     Matched {
         pairs,
-        count: decided.first.count + decided.second.count,
+        count,
         refusal: 0,
         table,
     }

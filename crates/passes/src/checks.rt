@@ -86,10 +86,12 @@ pub fn decided_refusal(config: TrackerConfig, counts: Counts, points: &[f64], mo
     requires { ⌜ (counts .records ≤ 64) × (counts .opened ≤ 2000000000) × (more ≤ 64) ⌝ }
     ensures { λ r. ⌜ r ≡ firstDue (decidedChecks config counts (now (points .entry)) more) ⌝ }
 {
-    if !are_finite(points) {
+    let broken = !are_finite(points);
+    let full = config.capacity < counts.records + more;
+    if broken {
         return refusals::NOT_FINITE;
     }
-    if config.capacity < counts.records + more {
+    if full {
         return refusals::TABLE_FULL;
     }
     if 2000000000 < counts.opened + more as u32 {

@@ -53,8 +53,7 @@ pub fn reid_table(t: Table, s: &mut [f64], distances: &[f64]) -> Table
     let records = t.records;
     let places = decide(t, distances);
     let merged = merging::merge_each(config, records, counts.records, s, places);
-    let leaving = places.rows;
-    let kept = merging::drop_absorbed(config, merged, counts.records, s, leaving, places.count);
+    let kept = merging::drop_absorbed(config, merged, counts.records, s, places);
     let staying = kept.records;
     let lists = making::no_lists();
     Table {

@@ -5,7 +5,7 @@ ghost use Prim.Native.Nat.{_+_, _*_, _<_, _≤_};
 ghost use lib.ListN.{length, take, drop};
 ghost use lib.Seq.{paste};
 ghost use Rattle.laws.specs.Float64.{f0};
-ghost use Rattle.laws.specs.Lists.{EachBelow, filled};
+ghost use Rattle.laws.specs.Lists.{EachBelow, filled, holds};
 ghost use Rattle.matching.specs.Lent.{picksOf, picked};
 ghost use Rattle.parts.specs.Layout.{blockSize};
 ghost use Rattle.parts.specs.Ranges.{Sizes, ObjectInRange};
@@ -106,18 +106,26 @@ pub fn merge_each(
     records
 }
 
-// The records that stay move down in order, and their blocks with them: all but the first m places of a list.
+// Whether a place is the candidate's of some pick.
+fn leaves(places: Picks, place: usize) -> bool
+    requires { ⌜ (places .count ≤ length (places .rows)) × (places .count ≤ length (places .cols)) ⌝ }
+    ensures { λ r. ⌜ r ≡ holds place (take (places .count) (places .rows)) ⌝ }
+{
+    let rows = places.rows;
+    laws::is_among(&rows, places.count, place)
+}
+
+// The records that stay move down in order, and their blocks with them: all but the candidates picked.
 pub fn drop_absorbed(
     config: TrackerConfig,
     records: [TrackedObject; 64],
     n: usize,
     s: &mut [f64],
-    leaving: [usize; 32],
-    m: usize,
+    places: Picks,
 ) -> Staying
-    requires { ⌜ Sizes config × (n ≤ 64) × (n * blockSize config ≤ length (now s)) × (m ≤ 32) ⌝ }
-    ensures { λ r. ⌜ r ≡ stayingOf (stayingAt (take m leaving) (slots (blockSize config) records (now (s .entry)) n)) records ⌝ }
-    ensures { λ _. ⌜ now (s .exit) ≡ floatsBack (blockSize config) (stayingAt (take m leaving) (slots (blockSize config) records (now (s .entry)) n)) (now (s .entry)) ⌝ }
+    requires { ⌜ Sizes config × (n ≤ 64) × (n * blockSize config ≤ length (now s)) × (places .count ≤ 32) ⌝ }
+    ensures { λ r. ⌜ r ≡ stayingOf (stayingAt (take (places .count) (places .rows)) (slots (blockSize config) records (now (s .entry)) n)) records ⌝ }
+    ensures { λ _. ⌜ now (s .exit) ≡ floatsBack (blockSize config) (stayingAt (take (places .count) (places .rows)) (slots (blockSize config) records (now (s .entry)) n)) (now (s .entry)) ⌝ }
 {
     let at = block::layout_of(config);
     let size = at.size;
@@ -125,7 +133,7 @@ pub fn drop_absorbed(
     let mut k = 0;
     let mut i = 0;
     while i < n {
-        if laws::is_among(&leaving, m, i) {
+        if leaves(places, i) {
             i += 1;
             continue;
         }

@@ -247,18 +247,18 @@ pub fn make(config: TrackerConfig, floats: usize) -> Answer
 {
     let settings = settle(config);
     let refusal = making_refusal(settings, floats);
+    let fresh = fresh_table(settings);
+    let zero = zero_table();
     if refusal == 0 {
-        let table = fresh_table(settings);
         return Answer {
             refusal,
             count: 0,
-            table,
+            table: fresh,
         };
     }
-    let table = zero_table();
     Answer {
         refusal,
         count: 0,
-        table,
+        table: zero,
     }
 }

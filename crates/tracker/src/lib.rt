@@ -31,17 +31,18 @@ pub fn predict(t: Table, storage: &mut [f64]) -> Answer
     ensures { λ r. ⌜ r ≡ predictAnswer t (now (storage .entry)) ⌝ }
     ensures { λ _. ⌜ now (storage .exit) ≡ predictStorage t (now (storage .entry)) ⌝ }
 {
-    let refusal = table::making::predict_refusal(t, storage.len());
-    if refusal != 0 {
+    let floats = storage.len();
+    let due = table::making::predict_refusal(t, floats);
+    if due != 0 {
         return Answer {
-            refusal,
+            refusal: due,
             count: 0,
             table: t,
         };
     }
     let stepped = predict::predict_table(t, storage);
     Answer {
-        refusal,
+        refusal: due,
         count: 0,
         table: stepped,
     }
@@ -126,9 +127,10 @@ pub fn total_object_count(t: Table) -> Count
             count: 0,
         };
     }
+    let issued = (counts.permanent - 1) as usize;
     Count {
         refusal: 0,
-        count: (counts.permanent - 1) as usize,
+        count: issued,
     }
 }
 
@@ -144,8 +146,9 @@ pub fn current_object_count(t: Table) -> Count
             count: 0,
         };
     }
+    let active = reid::active::active_count(records, counts.records);
     Count {
         refusal: 0,
-        count: reid::active::active_count(records, counts.records),
+        count: active,
     }
 }

@@ -15,7 +15,7 @@ match-detections-and-objects-requires c κs = search needs
 
 returns : tie.Need-returns
 unfolding secondPass
-returns c = rw (c .match-detections-and-objects .ensures, c .before .columns-of .ensures, c .before .before .rows-of .ensures)
+returns c = rw (← c .before .before .rows-of .ensures, ← c .before .columns-of .ensures) (c .match-detections-and-objects .ensures)
 
 pub second-pass-spec : {M : Type 1} → statement M
 second-pass-spec = tie.close (tie.spec rows-of-requires columns-of-requires match-detections-and-objects-requires returns)

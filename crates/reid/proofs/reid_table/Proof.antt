@@ -21,7 +21,7 @@ merge-each-requires c κs =
 
 drop-absorbed-requires : tie.Need-drop-absorbed-requires
 drop-absorbed-requires c κs =
-    let m = c .before .before .before .before in
+    let m = c .before .before .before in
     let d = m .before .before in
     let a = given d .args in
     let p = given d .pre in (
@@ -41,7 +41,7 @@ returns : tie.Need-returns
 unfolding reidTable
 returns c =
     let k = c .before .before .before .before in
-    let m = k .before .before .before .before .before in
+    let m = k .before .before .before .before in
     let d = m .before .before in
     let a = given d .args in
     let e = m .merge-each .ensures in

@@ -1,5 +1,5 @@
 -- `tracker::current_object_count` meets its contract: a whole table holds at most 64 records.
-use mathlib.Core.Path.{_≡_, sym, _∙_}
+use mathlib.Core.Path.{_≡_, sym, _∙_, ap}
 use mathlib.Core.Bool.{true, false}
 use native.Mathlib.Omega.{arith}
 use borrow.Author.Needs.{needs}
@@ -7,7 +7,7 @@ use borrow.Author.Tests.{not-true, not-false}
 use Rattle.table.specs.Wholeness.{wholeTable}
 use Rattle.table.specs.Refusals.{firstDue}
 use Rattle.table.proofs.Facts.{whole-facts}
-use Rattle.tracker.specs.Calls.{currentAnswer}
+use Rattle.tracker.specs.Calls.{countOf, currentAnswer}
 use Rattle.tracker.proofs.current_object_count.Statement.{statement}
 use Rattle.tracker.proofs.current_object_count.Tie as tie
 
@@ -30,7 +30,7 @@ active-count-requires c κs =
 
 returns-2 : tie.Need-returns-2
 unfolding currentAnswer firstDue
-returns-2 c = rw (whole (c .before), c .active-count .ensures)
+returns-2 c = rw (whole (c .before)) (ap (countOf 0) (c .active-count .ensures))
 
 pub current-object-count-spec : {M : Type 1} → statement M
 current-object-count-spec = tie.close (tie.spec is-whole-requires returns active-count-requires returns-2)

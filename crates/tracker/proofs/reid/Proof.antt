@@ -26,7 +26,7 @@ unfolding reidAnswer reidStorage reidActive
 returns c =
     let a = given (c .before) .args in
     let call = c .before .reid-refusal in
-    let e = ne-eqb (firstDue (reidChecks (a .t) (length (a .storage .now)) (length (a .distances .now)) (length (a .active .now)))) 0 (λ z. c .if1 .taken (call .ensures ∙ z)) in
+    let e = ne-eqb (firstDue (reidChecks (a .t) (length (a .storage .now)) (length (a .distances .now)) (length (a .active .now)))) 0 (λ z. omega (arith, c .if1 .taken, call .ensures, z)) in
     (rw (call .ensures, e), (rw e, rw e))
 
 -- what the core and the list lean on
@@ -35,7 +35,7 @@ asked : (c : tie.Else1) → let a = given (c .before) .args in
 asked c =
     let b = given (c .before) in
     let all : length (b .args .t .records) ≡ 64 = simp length-map at (b .good .0 .1 .1 .0 .1 .0 .1) in
-    reid-ready (b .args .t) (length (b .args .storage .now)) (length (b .args .distances .now)) (length (b .args .active .now)) all (sym (c .before .reid-refusal .ensures) ∙ c .if1 .left)
+    reid-ready (b .args .t) (length (b .args .storage .now)) (length (b .args .distances .now)) (length (b .args .active .now)) all (omega (arith, c .before .reid-refusal .ensures, c .if1 .left))
 
 reid-table-requires : tie.Need-reid-table-requires
 reid-table-requires c κs = asked (c .before) .0

@@ -23,17 +23,15 @@ returns c =
 whole : (c : tie.Else1) → wholeTable (c .before .before .before .args .t) ≡ true
 whole c = sym (c .before .is-whole .ensures) ∙ not-false _ (c .if1 .left)
 
-sub-t5 : tie.Need-sub-t5
-sub-t5 c = whole-facts (c .before .before .before .before .args .t) (whole (c .before)) .counts .permanent .0
+sub-issued : tie.Need-sub-issued
+sub-issued c = omega (arith, whole-facts (c .before .before .before .before .args .t) (whole (c .before)) .counts)
 
-cast-t6 : tie.Need-cast-t6
-cast-t6 c =
-    let f = whole-facts (c .before .before .before .before .args .t) (whole (c .before)) .counts in
-    record { fits = omega (arith, f .permanent .1, f .opened) }
+cast-issued : tie.Need-cast-issued
+cast-issued c = record { fits = omega (arith, whole-facts (c .before .before .before .before .args .t) (whole (c .before)) .counts) }
 
 returns-2 : tie.Need-returns-2
 unfolding totalAnswer firstDue
 returns-2 c = rw (whole (c .before))
 
 pub total-object-count-spec : {M : Type 1} → statement M
-total-object-count-spec = tie.close (tie.spec is-whole-requires returns sub-t5 cast-t6 returns-2)
+total-object-count-spec = tie.close (tie.spec is-whole-requires returns sub-issued cast-issued returns-2)

@@ -1,7 +1,7 @@
 -- `matching_step::listing::add_pairs` meets its contract: behind the pairs in front stand those of the picks below i.
 use mathlib.Core.Path.{_≡_, sym, _∙_, ap}
-use mathlib.Core.List.{[], append-nil}
-use Prim.Native.Nat.{_<_, _≤_, _+_, _-_, _*_}
+use mathlib.Core.List.{List, [], append-nil}
+use Prim.Native.Nat.{ℕ, _<_, _≤_, _+_, _-_, _*_}
 use native.Mathlib.Nat.{mul-le-mul}
 use native.Mathlib.Omega.{arith}
 use borrow.Author.Needs.{needs}
@@ -10,15 +10,25 @@ use lib.Seq.{length-take-le}
 use Rattle.laws.specs.Lists.{below, filled}
 use Rattle.laws.proofs.Cells.{cell-below}
 use Rattle.table.proofs.Reading.{read}
-use Rattle.passes.specs.Checks.{frame}
-use Rattle.matching_step.specs.Step.{pairOf, noPair}
+use Rattle.matching.specs.Greedy.{Pick}
+use Rattle.matching.proofs.Picked.{pickAt}
+use Rattle.pairs.specs.declared.Pair.{Pair}
+use Rattle.parts.specs.declared.TrackedObject.{TrackedObject}
+use Rattle.table.specs.Making.{zeroObject}
+use Rattle.passes.specs.Checks.{Frame, frame}
+use Rattle.matching_step.specs.Step.{distanceOf, pairOf, noPair}
 use Rattle.matching_step.proofs.Pairing.{behind, pair-put}
 use Rattle.matching_step.proofs.listing.add_pairs.Statement.{statement}
 use Rattle.matching_step.proofs.listing.add_pairs.Tie as tie
 
+-- a pair whose record is read is the pick's
+pair-is : (records : List TrackedObject) (f : Frame) (n pass : ℕ) (p : Pick) {o : TrackedObject} → o ≡ getD records (p .col) zeroObject
+    → _≡_ {A = Pair} (record { detection = p .row; «global_id» = o .origin .«global_id»; pass = pass; distance = distanceOf f n p }) (pairOf records f n pass p)
+pair-is records f n pass p e = rw e
+
 abbrev Inv-loop : tie.InvT-loop
 Inv-loop start distances detections n picks pass pairs₀ records rows cols i₀ pairs i =
-    (i ≤ picks .count) × (pairs ≡ filled 32 noPair (behind (take start pairs₀) (pairOf records (frame 0 [] [] [] distances) n pass) picks i))
+    (pairs ≡ filled 32 noPair (behind (take start pairs₀) (pairOf records (frame 0 [] [] [] distances) n pass) picks i)) × (i ≤ picks .count)
 
 abbrev μ-loop : tie.MeasureT-loop
 μ-loop start distances detections n picks pass pairs₀ records rows cols i₀ pairs i = picks .count - i
@@ -45,7 +55,7 @@ loop-holds : tie.Need-loop-holds Inv-loop μ-loop
 unfolding below
 loop-holds c =
     let s = c .before .before in
-    (omega arith, s .pre .6 ∙ ap (filled 32 noPair) (sym (append-nil (take (s .args .start) (s .args .t1)))))
+    (s .pre .6 ∙ ap (filled 32 noPair) (sym (append-nil (take (s .args .start) (s .args .t1)))), omega arith)
 
 mul-d : tie.Need-mul-d Inv-loop μ-loop
 mul-d c = search needs
@@ -65,17 +75,17 @@ mul-o c = record { fits = omega (arith, chosen c) }
 array-copy-out-o : tie.Need-array-copy-out-o Inv-loop μ-loop
 array-copy-out-o c = chosen c .0
 
-mul-t22 : tie.Need-mul-t22 Inv-loop μ-loop
-mul-t22 c = record { fits = omega (arith, chosen (c .before)) }
+mul-distance : tie.Need-mul-distance Inv-loop μ-loop
+mul-distance c = record { fits = omega (arith, chosen (c .before)) }
 
-add-t19 : tie.Need-add-t19 Inv-loop μ-loop
-add-t19 c = record { fits = omega (arith, chosen (c .before)) }
+add-distance : tie.Need-add-distance Inv-loop μ-loop
+add-distance c = record { fits = omega (arith, chosen (c .before)) }
 
-mul-t28 : tie.Need-mul-t28 Inv-loop μ-loop
-mul-t28 c = record { fits = omega (arith, chosen (c .before)) }
+mul-distance-2 : tie.Need-mul-distance-2 Inv-loop μ-loop
+mul-distance-2 c = record { fits = omega (arith, chosen (c .before)) }
 
-shared-slice-read-t30 : tie.Need-shared-slice-read-t30 Inv-loop μ-loop
-shared-slice-read-t30 c = chosen (c .before .before) .1
+shared-slice-read-distance : tie.Need-shared-slice-read-distance Inv-loop μ-loop
+shared-slice-read-distance c = chosen (c .before .before) .1
 
 add-pairs : tie.Need-add-pairs Inv-loop μ-loop
 add-pairs c = search needs
@@ -103,13 +113,14 @@ loop-again c =
     let front = length-take-le (a .start) (a .t1) (omega arith) in
     let object = read (a .t3) k (omega (arith, chosen t)) in
     let pair = pairOf (a .t3) (frame 0 [] [] [] (a .distances .now)) (a .n) (a .pass) in
-    (omega arith, pair-put (take (a .start) (a .t1)) pair (a .picks) (l .loop .i) 32 noPair (omega arith) (omega arith) (l .loop .inv .1) (rw object))
+    let same = pair-is (a .t3) (frame 0 [] [] [] (a .distances .now)) (a .n) (a .pass) (pickAt (a .picks) (l .loop .i)) object in
+    (pair-put (take (a .start) (a .t1)) pair (a .picks) (l .loop .i) 32 noPair (omega arith) (omega arith) (l .loop .inv .0) same, omega arith)
 
 returns : tie.Need-returns Inv-loop μ-loop
 returns c =
     let l = c .before .before in
     let e : l .loop .i ≡ given l .args .picks .count = omega arith in
-    rw e at (l .loop .inv .1)
+    rw e at (l .loop .inv .0)
 
 pub add-pairs-spec : {M : Type 1} → statement M
 add-pairs-spec =
@@ -124,10 +135,10 @@ add-pairs-spec =
     array-read-k
     mul-o
     array-copy-out-o
-    mul-t22
-    add-t19
-    mul-t28
-    shared-slice-read-t30
+    mul-distance
+    add-distance
+    mul-distance-2
+    shared-slice-read-distance
     add-pairs
     mul-pairs
     array-set-from-pairs

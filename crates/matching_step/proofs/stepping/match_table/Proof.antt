@@ -70,8 +70,8 @@ match-step-requires c κs =
     let b = start (given d .before) in
     startable (came d) (none .before .decided-refusal .ensures) (none .if2 .left) (simp length-map at (b .good .0 .1 .1 .0 .1 .0 .1))
 
-add-t20 : tie.Need-add-t20
-add-t20 c = omega (arith, pairable (came (c .before .before .before .before .before .before .before .before .before)) .0)
+add-count : tie.Need-add-count
+add-count c = omega (arith, pairable (came (c .before .before .before .before .before .before .before .before .before)) .0)
 
 same-length : tie.Need-same-length
 same-length c = search needs
@@ -97,6 +97,6 @@ match-table-spec =
     returns-2
     pairs-of-requires
     match-step-requires
-    add-t20
+    add-count
     same-length
     returns-3)

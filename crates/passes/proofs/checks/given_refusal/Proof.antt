@@ -40,7 +40,10 @@ few-passed c =
     let between-is = c .before .before .is-between .ensures in
     rw (step-passed (c .before .before .before), sym between-is ∙ not-false _ (c .before .if2 .left), le-ltb 32 _ (c .if3 .left))
 
-lengths-passed : (c : tie.Else4) → let checks = asked (c .before .before .before .before .before .before .before .before .before) in firstDue checks ≡ firstDue (drop 6 checks)
+abbrev begun : tie.Else4 → tie.Start
+begun c = c .before .before .before .before .before .before .before .before .before
+
+lengths-passed : (c : tie.Else4) → let checks = asked (begun c) in firstDue checks ≡ firstDue (drop 6 checks)
 unfolding firstDue
 lengths-passed c = rw (few-passed (c .before .before), sym (c .before .do-lengths-fit .ensures) ∙ not-false _ (c .if4 .left))
 
@@ -78,11 +81,11 @@ returns-4 c = rw (few-passed (c .before .before), sym (c .before .do-lengths-fit
 
 returns-5 : tie.Need-returns-5
 unfolding firstDue
-returns-5 c = rw (lengths-passed (c .before .before), lt-ltb _ 32 (c .if5 .taken))
+returns-5 c = rw (lengths-passed (c .before .before), lt-ltb (begun (c .before .before) .args .lengths .pairs) 32 (omega (arith, c .if5 .taken)))
 
 returns-6 : tie.Need-returns-6
 unfolding firstDue
-returns-6 c = rw (lengths-passed (c .before .before), le-ltb _ 32 (c .if5 .left))
+returns-6 c = rw (lengths-passed (c .before .before), le-ltb (begun (c .before .before) .args .lengths .pairs) 32 (omega (arith, c .if5 .left)))
 
 pub given-refusal-spec : {M : Type 1} → statement M
 given-refusal-spec =

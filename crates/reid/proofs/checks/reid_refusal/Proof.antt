@@ -68,17 +68,24 @@ returns-2 c =
     let e = c .before .before .before in
     sym (step-passed e ∙ rw (ne-eqb _ _ (λ q. c .if2 .taken (q ∙ sym (same-asked (c .before))))))
 
-lengths-passed : (c : tie.Else2) → let checks = asked (c .before .before .before .before .before .before .before .before .before) in firstDue checks ≡ firstDue (drop 4 checks)
+abbrev begun : tie.Else2 → tie.Start
+begun c = c .before .before .before .before .before .before .before .before .before
+
+lengths-passed : (c : tie.Else2) → let checks = asked (begun c) in firstDue checks ≡ firstDue (drop 4 checks)
 unfolding firstDue
 lengths-passed c = step-passed (c .before .before .before) ∙ rw (eq-eqb _ _ (c .if2 .left ∙ same-asked (c .before)))
 
 returns-3 : tie.Need-returns-3
 unfolding firstDue
-returns-3 c = sym (lengths-passed (c .before .before) ∙ rw (lt-ltb _ _ (c .if3 .taken)))
+returns-3 c =
+    let a = begun (c .before .before) .args in
+    sym (lengths-passed (c .before .before) ∙ rw (lt-ltb (a .places) (a .t .config .capacity) (omega (arith, c .if3 .taken))))
 
 returns-4 : tie.Need-returns-4
 unfolding firstDue
-returns-4 c = sym (lengths-passed (c .before .before) ∙ rw (le-ltb _ _ (c .if3 .left)))
+returns-4 c =
+    let a = begun (c .before .before) .args in
+    sym (lengths-passed (c .before .before) ∙ rw (le-ltb (a .places) (a .t .config .capacity) (omega (arith, c .if3 .left))))
 
 pub reid-refusal-spec : {M : Type 1} → statement M
 reid-refusal-spec =

@@ -21,20 +21,18 @@ making-refusal-requires c κs = search needs
 fresh-table-requires : tie.Need-fresh-table-requires
 fresh-table-requires c κs = search needs
 
-returns : tie.Need-returns
-unfolding made
-returns c =
-    let e = refusal-of (c .before .before) in
-    rw (c .fresh-table .ensures, c .before .before .before .settle .ensures, e, eq-eqb _ 0 (c .before .if1 .taken))
-
 zero-table-requires : tie.Need-zero-table-requires
 zero-table-requires c κs = search needs
 
+returns : tie.Need-returns
+unfolding made
+returns c =
+    let fresh = c .before .before in
+    rw (refusal-of (fresh .before), eq-eqb _ 0 (c .if1 .taken), ← fresh .before .before .settle .ensures, ← fresh .fresh-table .ensures)
+
 returns-2 : tie.Need-returns-2
 unfolding made
-returns-2 c =
-    let e = refusal-of (c .before .before) in
-    rw (c .zero-table .ensures, e, ne-eqb _ 0 (c .before .if1 .left))
+returns-2 c = rw (refusal-of (c .before .before .before), ne-eqb _ 0 (c .if1 .left), ← c .before .zero-table .ensures)
 
 pub make-spec : {M : Type 1} → statement M
 make-spec =
@@ -43,6 +41,6 @@ make-spec =
     settle-requires
     making-refusal-requires
     fresh-table-requires
-    returns
     zero-table-requires
+    returns
     returns-2)
