@@ -2,7 +2,8 @@
 use mathlib.Core.Path.{_≡_, refl}
 use mathlib.Core.Bool.{true, false, not}
 use mathlib.Core.List.{[], _∷_}
-use Prim.Native.Nat.{ℕ, _+_, _<_, _≤_}
+use Prim.Native.Nat.{ℕ, _+_, _*_, _<_, _≤_}
+use native.Mathlib.Nat.{le-trans, mul-le-mul-right}
 use native.Mathlib.Omega.{arith}
 use borrow.Author.Tests.{leb-true, ltb-false, eqb-true, not-true, not-false}
 use lib.Dec.{leb, ltb, eqb}
@@ -21,6 +22,7 @@ use Rattle.parts.proofs.Bounds.{coords-most, width-most, history-most}
 use Rattle.table.specs.declared.Counts.{Counts}
 use Rattle.table.specs.declared.Table.{Table}
 use Rattle.table.specs.Ranges.{between, signedBetween, reidBetween, settingsInRange, delayNegative, delayTooLong}
+use Rattle.table.specs.Refusals.{storageNeed}
 use Rattle.table.specs.Wholeness.{settingsWhole, countsWhole, pointsWhole, agesWhole, recordWhole, recordsWhole, namesBelow, listWhole, listsWhole, wholeTable}
 use Rattle.table.proofs.Chain.{parts}
 use Rattle.table.proofs.Names.{name-facts}
@@ -93,6 +95,11 @@ sizes-of c h =
 
 pub block-most : (c : TrackerConfig) → Sizes c → blockSize c ≤ 864
 block-most c h = omega (arith, coords-most c h, width-most c h, history-most c h)
+
+-- a storage of the need holds the blocks of as many records as there is room for
+pub blocks-fit : (c : TrackerConfig) {n floats : ℕ} → n ≤ c .capacity → storageNeed c ≤ floats → n * blockSize c ≤ floats
+unfolding storageNeed
+blocks-fit c few enough = le-trans (mul-le-mul-right (blockSize c) few) enough
 
 -- ---- counts
 
