@@ -8,8 +8,7 @@ use lib.ListN.{length}
 use Rattle.table.specs.declared.Table.{Table}
 use Rattle.table.specs.Making.{zeroObject}
 use Rattle.table.specs.Refusals.{firstDue, storageNeed, predictChecks}
-use Rattle.matching.specs.declared.Numbers.{Numbers}
-use Rattle.table.proofs.Facts.{ListFacts, whole-facts, sizes-of, blocks-fit, object-in-range}
+use Rattle.table.proofs.Facts.{whole-facts, sizes-of, blocks-fit, object-in-range}
 use Rattle.table.proofs.Due.{NoneDue, none-due}
 use Rattle.predict.specs.Step.{Ready}
 use Rattle.reid.specs.Step as reid
@@ -34,8 +33,7 @@ pub reid-ready : (t : Table) (floats distances places : ℕ) → length (t .reco
 reid-ready t floats distances places long e =
     let due = none-due (reidChecks t floats distances places) (omega arith, (omega arith, (omega arith, (omega arith, (omega arith, tt))))) e in
     let f = whole-facts t (not-false _ (due .0)) in
-    let c = t .config in
-    let named : (l : Numbers) → ListFacts (t .counts .records) l → reid.Named (t .counts .records) l = λ l g. (g .count, g .named) in (
+    let c = t .config in (
       record {
         sizes = sizes-of c (f .in-range);
         fit = omega (arith, f .counts .records, f .settings .capacity .1);
@@ -44,8 +42,8 @@ reid-ready t floats distances places long e =
         meets =
             record {
               lent = eqb-true distances _ (not-false _ (due .1 .1 .1 .0));
-              candidates = named (t .lists .candidates) (f .candidates);
-              old = named (t .lists .old) (f .old);
+              candidates = (f .candidates .count, f .candidates .named);
+              old = (f .old .count, f .old .named);
             };
       },
       omega (arith, f .counts .records, ltb-false places (c .capacity) (due .1 .1 .1 .1 .0)),
