@@ -13,7 +13,7 @@ use Rattle.parts.specs.Life.{lifePredicted, lifeOpened}
 use Rattle.parts.specs.Points.{pointsFallen, flagsSet}
 use Rattle.tracked_object.specs.Object.{objectPredicted, objectOpened, blockOpened, objectMerged}
 use Rattle.table.specs.Ranges.{settingsInRange, reidBetween}
-use Rattle.table.specs.Refusals.{firstDue}
+use Rattle.table.specs.Refusals.{firstDue, storageNeed}
 use Rattle.table.specs.Making.{made}
 use Rattle.table.specs.Wholeness.{countsWhole, pointsWhole, agesWhole, recordWhole, recordsWhole, namesBelow, listsWhole, wholeTable}
 use Rattle.table.specs.Slots.{slots, blocksOf, tableNames}
@@ -42,11 +42,11 @@ absorb-each-other = (refl, refl)
 -- ---- room for one record: the frame that asks for two more is refused with 13, and the day goes on
 
 pub too-many : refusalOf tooMany (dayOf (settings 1) (replicate 8 f0) untilTooMany .world) ≡ 13
-unfolding dayOf goesOn joined waiting through after entryOf made firstDue settingsInRange reidBetween wholeTable countsWhole recordsWhole recordWhole pointsWhole agesWhole listsWhole namesBelow any keep below slots blocksOf predictAnswer predictStorage predictTable predictFloats objectPredicted lifePredicted pointsFallen turns matchAnswer matchedFloats matchTable matchFloats firstHits secondHits toOpen afterFirst afterSecond afterOpening firstPass secondPass greedy pickThen scanRows scanRow smaller finite lt ofBits objectOpened lifeOpened flagsSet blockOpened reidAnswer reidStorage reidTable reidFloats slotsStaying slotsMerged merges withCoordinate
+unfolding dayOf goesOn joined waiting through after entryOf made firstDue storageNeed settingsInRange reidBetween wholeTable countsWhole recordsWhole recordWhole pointsWhole agesWhole listsWhole namesBelow any keep below slots blocksOf predictAnswer predictStorage predictTable predictFloats objectPredicted lifePredicted pointsFallen turns matchAnswer matchedFloats matchTable matchFloats firstHits secondHits toOpen afterFirst afterSecond afterOpening firstPass secondPass greedy pickThen scanRows scanRow smaller finite lt ofBits objectOpened lifeOpened flagsSet blockOpened reidAnswer reidStorage reidTable reidFloats slotsStaying slotsMerged merges withCoordinate
 too-many = refl
 
 -- one record was ever opened, and the frame that follows hits it in pass 2
 pub carrying-on : (everOpened (dayOf (settings 1) (replicate 8 f0) carryingOn) ≡ 1 ∷ [])
     × (gather (λ e. map (λ h. h .name) (e .second)) (entries (dayOf (settings 1) (replicate 8 f0) carryingOn)) ≡ 1 ∷ [])
-unfolding dayOf goesOn joined waiting through after entryOf gather gathered matchAccount dropped absorbed made firstDue settingsInRange reidBetween wholeTable countsWhole recordsWhole recordWhole pointsWhole agesWhole listsWhole namesBelow any keep below slots blocksOf predictAnswer predictStorage predictTable predictFloats objectPredicted lifePredicted pointsFallen turns matchAnswer matchedFloats matchTable matchFloats firstHits secondHits toOpen afterFirst afterSecond afterOpening firstPass secondPass greedy pickThen scanRows scanRow smaller finite lt ofBits objectOpened lifeOpened flagsSet blockOpened reidAnswer reidStorage reidTable reidFloats slotsStaying slotsMerged merges withCoordinate
+unfolding dayOf goesOn joined waiting through after entryOf gather gathered matchAccount dropped absorbed made firstDue storageNeed settingsInRange reidBetween wholeTable countsWhole recordsWhole recordWhole pointsWhole agesWhole listsWhole namesBelow any keep below slots blocksOf predictAnswer predictStorage predictTable predictFloats objectPredicted lifePredicted pointsFallen turns matchAnswer matchedFloats matchTable matchFloats firstHits secondHits toOpen afterFirst afterSecond afterOpening firstPass secondPass greedy pickThen scanRows scanRow smaller finite lt ofBits objectOpened lifeOpened flagsSet blockOpened reidAnswer reidStorage reidTable reidFloats slotsStaying slotsMerged merges withCoordinate
 carrying-on = (refl, refl)

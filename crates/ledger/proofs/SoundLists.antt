@@ -11,16 +11,15 @@ use lib.ListN.{length, getD, take, drop, replicate, take-append-drop, List·getD
 use lib.Seq.{drop-cons, take-append-le}
 use Rattle.laws.specs.Lists.{holds, times, padded}
 use Rattle.laws.proofs.Counting.{times-append, no-times}
-use Rattle.matching.specs.Unmatched.{numbersOf}
 use Rattle.table.specs.declared.Lists.{Lists}
-use Rattle.table.specs.Making.{noNumbers}
-use Rattle.table.specs.Wholeness.{namesBelow, listWhole, listsWhole}
+use Rattle.table.specs.Making.{noNumbers, noCandidates}
+use Rattle.table.specs.Wholeness.{namesBelow, placesWhole, listWhole, candidatesWhole, listsWhole}
 use Rattle.table.proofs.Names.{new-name}
 use Rattle.ledger.proofs.SoundTests.{_also_}
 
--- of numbers below n, none twice
-pub record Distinct (n : ℕ) (l : List ℕ) : Type 0 where
-  pub few : length l ≤ 64
+-- of numbers below n, none twice, as many as there are places
+pub record Distinct (places n : ℕ) (l : List ℕ) : Type 0 where
+  pub few : length l ≤ places
   pub once : (x : ℕ) → times x l ≤ 1
   pub inside : (x : ℕ) → n ≤ x → times x l ≡ 0
 
@@ -32,7 +31,7 @@ stands l i h =
     ap (times x) (sym (take-append-drop i l)) ∙ times-append x (take i l) (drop i l)
     ∙ rw (drop-cons l i 0 h, eq-eqb x x refl) (omega arith)
 
-module _ {n : ℕ} {l : List ℕ} (d : Distinct n l) where
+module _ {places n : ℕ} {l : List ℕ} (d : Distinct places n l) where
   named : (i : ℕ) → i < length l → getD l i 0 < n
   named i h = go (ltb (getD l i 0) n) refl
     where
@@ -44,17 +43,17 @@ module _ {n : ℕ} {l : List ℕ} (d : Distinct n l) where
   new i h = no-times (getD l i 0) (take i l) (omega (arith, stands l i h, d .once (getD l i 0)))
 
   -- as an array lists them
-  names-whole : (i : ℕ) → i ≤ length l → namesBelow n i (padded 64 l) ≡ true
+  names-whole : (i : ℕ) → i ≤ length l → namesBelow n i (padded places l) ≡ true
   unfolding namesBelow
   names-whole zero h = refl
   names-whole (suc i) h =
-      let rest = replicate {A = ℕ} (64 - length l) 0 in
+      let rest = replicate {A = ℕ} (places - length l) 0 in
       let at = List·getD-append l rest 0 i h in
       rw (add-one i) at
-      (new-name n (padded 64 l) i (names-whole i (omega arith)) (rw at (named i h)) (rw (at, take-append-le i l rest (omega arith)) (new i h)))
+      (new-name n (padded places l) i (names-whole i (omega arith)) (rw at (named i h)) (rw (at, take-append-le i l rest (omega arith)) (new i h)))
 
-  pub list-whole : listWhole n (numbersOf l) ≡ true
-  list-whole = le-leb _ 64 (d .few) also names-whole (length l) (omega arith)
+  pub list-whole : placesWhole places n (length l) (padded places l) ≡ true
+  list-whole = le-leb _ places (d .few) also names-whole (length l) (omega arith)
 
 -- ---- the five lists
 
@@ -62,8 +61,12 @@ pub empty-whole : (n : ℕ) → listWhole n noNumbers ≡ true
 unfolding namesBelow
 empty-whole n = refl
 
+pub no-candidates-whole : (n : ℕ) → candidatesWhole n noCandidates ≡ true
+unfolding namesBelow
+no-candidates-whole n = refl
+
 module _ (n : ℕ) (l : Lists) where
   pub lists-whole : listWhole n (l .alive) ≡ true → listWhole n (l .initializing) ≡ true → listWhole n (l .dead) ≡ true → listWhole n (l .old) ≡ true
-      → listWhole n (l .candidates) ≡ true → listsWhole n l ≡ true
+      → candidatesWhole n (l .candidates) ≡ true → listsWhole n l ≡ true
   unfolding listsWhole
   lists-whole alive initializing dead old candidates = alive also initializing also dead also old also candidates

@@ -9,14 +9,14 @@ use borrow.Author.Tests.{leb-true, ltb-false, not-false}
 use lib.Dec.{leb}
 use lib.Ieee.{Float}
 use lib.IntN.{pos}
-use lib.ListN.{length, getD}
+use lib.ListN.{length, getD, length-map}
 use lib.Signed.{leZ}
 use Rattle.laws.specs.Every.{none, one}
 use Rattle.laws.specs.Turns.{through}
 use Rattle.laws.proofs.Every.{every-append, every-set, every-map}
 use Rattle.laws.proofs.Through.{through-hold}
 use Rattle.matching.specs.Greedy.{Pick, rowsOf, colsOf}
-use Rattle.matching.proofs.Taken.{taken-at-most, taken-once, past-not-taken}
+use Rattle.matching.proofs.Taken.{taken-once, past-not-taken}
 use Rattle.parts.specs.declared.TrackerConfig.{TrackerConfig}
 use Rattle.table.specs.declared.Table.{Table}
 use Rattle.table.specs.Ranges.{delayNegative}
@@ -31,6 +31,7 @@ use Rattle.passes.specs.Passes.{numbers, oldOnes}
 use Rattle.passes.proofs.PassLaws.{second-passed, old-once, old-below, old-few}
 use Rattle.matching_step.specs.Step.{State, lentDetection, distanceOf, hitOne, openOne, matrixOf, firstHits, secondHits, toOpen, start, afterFirst, afterSecond, afterOpening, matchTable, matchRefusal}
 use Rattle.matching_step.proofs.AccountLaws.{opened-length, slots-after, frames-stay, records-after, opened-after, initializing-after, global-after, permanent-after, objects-after}
+use Rattle.matching_step.proofs.Deciding.{few-hits}
 use Rattle.matching_step.proofs.Readiness.{ready}
 use Rattle.ledger.proofs.Sound.{Sound, SoundSlots, sound-settings, sound-fit, sound-slots}
 use Rattle.ledger.proofs.SoundLists.{Distinct, list-whole, empty-whole, lists-whole}
@@ -97,7 +98,7 @@ module _ (t : Table) (s : List Float) (detections : ℕ) (f : Frame) (places : �
   -- ---- the lists: of records that were in the table before
 
   old-distinct : {n : ℕ} → t .counts .records ≤ n
-      → Distinct n (oldOnes (t .counts .records) (numbers (t .lists .alive)) (numbers (t .lists .dead)) (colsOf (firstHits t detections f)))
+      → Distinct 64 n (oldOnes (t .counts .records) (numbers (t .lists .alive)) (numbers (t .lists .dead)) (colsOf (firstHits t detections f)))
   old-distinct h =
       let alive = numbers (t .lists .alive) in
       let dead = numbers (t .lists .dead) in
@@ -108,12 +109,18 @@ module _ (t : Table) (s : List Float) (detections : ℕ) (f : Frame) (places : �
         inside = λ x past. old-below (t .counts .records) alive dead hit x (le-trans h past);
       }
 
-  candidates-distinct : {n : ℕ} → t .counts .records ≤ n → Distinct n (colsOf (secondHits t detections f))
+  candidates-distinct : {n : ℕ} → t .counts .records ≤ n → Distinct 32 n (colsOf (secondHits t detections f))
   unfolding secondHits
   candidates-distinct h =
       let taken = second-passed (matrixOf t detections f) (numbers (t .lists .initializing)) (rowsOf (firstHits t detections f)) .cols in
       record {
-        few = le-trans (taken-at-most taken) (sound-fit sound);
+        few =
+            omega (
+              arith,
+              length-map (secondHits t detections f) (λ p. p .col),
+              few-hits t detections f,
+              ready t s detections f places (sound .long) none-is .decidable .few,
+            );
         once = taken-once taken;
         inside = λ x past. past-not-taken taken x (le-trans h past);
       }

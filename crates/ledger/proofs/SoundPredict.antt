@@ -25,11 +25,11 @@ use Rattle.predict.proofs.Dropping.{kept-most}
 use Rattle.predict.proofs.Predicting.{predicted-length}
 use Rattle.laws.proofs.Every.{every-map, every-kept}
 use Rattle.ledger.proofs.Sound.{Sound, SoundSlots, sound-settings, sound-fit, sound-most, sound-slots, sound-back}
-use Rattle.ledger.proofs.SoundLists.{Distinct, list-whole, empty-whole, lists-whole}
+use Rattle.ledger.proofs.SoundLists.{Distinct, list-whole, empty-whole, no-candidates-whole, lists-whole}
 use Rattle.ledger.proofs.SoundChanges.{sound-predicted}
 
 -- of the numbers below n those that pass a test
-kept-distinct : (p : ℕ → Bool) (n : ℕ) → n ≤ 64 → Distinct n (keep p (below n))
+kept-distinct : (p : ℕ → Bool) (n : ℕ) → n ≤ 64 → Distinct 64 n (keep p (below n))
 kept-distinct p n h =
     record {
       few = le-trans (at-most p n) h;
@@ -73,5 +73,5 @@ module _ (t : Table) (s : List Float) (sound : Sound t) where
         objects = sound-back (slotsAfter t s) (t .records) same each-predicted;
         lists =
             lists-whole (length (slotsKept t s)) _ (placed-whole Alive) (placed-whole Initializing) (placed-whole Dead)
-            (empty-whole (length (slotsKept t s))) (empty-whole (length (slotsKept t s)));
+            (empty-whole (length (slotsKept t s))) (no-candidates-whole (length (slotsKept t s)));
       }

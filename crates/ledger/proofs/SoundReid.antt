@@ -22,7 +22,7 @@ use Rattle.reid.specs.Step.{mergeOne, merges, slotsMerged, slotsStaying, reidTa
 use Rattle.reid.proofs.Composing.{merged-length}
 use Rattle.reid.proofs.StepLaws.{records-fall}
 use Rattle.ledger.proofs.Sound.{Sound, SoundSlots, sound-settings, sound-fit, sound-most, sound-slots, sound-back}
-use Rattle.ledger.proofs.SoundLists.{empty-whole, lists-whole}
+use Rattle.ledger.proofs.SoundLists.{empty-whole, no-candidates-whole, lists-whole}
 use Rattle.ledger.proofs.SoundChanges.{sound-merged}
 
 module _ (c : TrackerConfig) (facts : SettingsFacts c) (frames : ℕ) where
@@ -79,5 +79,5 @@ module _ (t : Table) (s ds : List Float) (sound : Sound t) where
               initializing = n .initializing;
             };
         objects = sound-back (slotsStaying t s ds) (recordsBack (slotsMerged t s ds) (t .records)) refl each-staying;
-        lists = lists-whole left noLists (empty-whole left) (empty-whole left) (empty-whole left) (empty-whole left) (empty-whole left);
+        lists = lists-whole left noLists (empty-whole left) (empty-whole left) (empty-whole left) (empty-whole left) (no-candidates-whole left);
       }

@@ -13,7 +13,7 @@ use Rattle.parts.specs.declared.TrackedObject.{TrackedObject}
 use Rattle.parts.specs.declared.ReidCounter.the-variants.{Absent}
 use Rattle.table.specs.declared.Table.{Table}
 use Rattle.table.specs.declared.Phase.the-variants.{Reid}
-use Rattle.table.specs.Making.{zeroObject, noNumbers}
+use Rattle.table.specs.Making.{zeroObject, noNumbers, candidatesOf}
 use Rattle.pairs.specs.declared.Pair.{Pair}
 use Rattle.passes.specs.Checks.{Frame, frame}
 use Rattle.matching_step.specs.Step.{noPair}
@@ -67,7 +67,7 @@ meeting candidates old =
       counts = record { records = 2; frames = 1; opened = 2; permanent = 1; global = 3; initializing = 3 };
       phase = Reid;
       lists =
-          record { alive = noNumbers; initializing = noNumbers; dead = noNumbers; old = numbersOf old; candidates = numbersOf candidates };
+          record { alive = noNumbers; initializing = noNumbers; dead = noNumbers; old = numbersOf old; candidates = candidatesOf candidates };
     }
 
 abbrev pub floats : List Float

@@ -3,7 +3,7 @@ use mathlib.Core.Path.{_≡_, refl, sym, _∙_}
 use mathlib.Core.Bool.{true, false, cond}
 use mathlib.Core.List.{List, [], _∷_, _++_, map}
 use Prim.Native.Nat.{ℕ, zero, suc, _+_, _*_, _≤_}
-use native.Mathlib.Nat.{le-trans, mul-le-mul-right}
+use native.Mathlib.Nat.{le-trans}
 use native.Mathlib.Omega.{arith}
 use borrow.Author.Tests.{leb-true, ltb-false, eqb-true, not-false, ne-eqb, le-leb}
 use lib.Dec.{leb, eqb}
@@ -18,14 +18,14 @@ use Rattle.matching.specs.Lent.{picked}
 use Rattle.matching.specs.Unmatched.{unmatched}
 use Rattle.matching.proofs.Left.{at-most-total}
 use Rattle.matching.proofs.Picked.{picked-of}
-use Rattle.parts.specs.Layout.{coords, blockSize}
+use Rattle.parts.specs.Layout.{coords}
 use Rattle.pairs.specs.declared.Pair.{Pair}
 use Rattle.table.specs.declared.Table.{Table}
 use Rattle.table.specs.Making.{zeroObject}
 use Rattle.table.specs.Refusals.{firstDue, storageNeed}
 use Rattle.table.proofs.Chain.{parts}
 use Rattle.table.proofs.Due.{Numbered, due-after, none-due}
-use Rattle.table.proofs.Facts.{WholeFacts, whole-facts, sizes-of, object-in-range}
+use Rattle.table.proofs.Facts.{WholeFacts, whole-facts, sizes-of, blocks-fit, object-in-range}
 use Rattle.passes.specs.declared.Lengths.{Lengths}
 use Rattle.passes.specs.Checks.{Frame, frame, lengthsOf, givenChecks, decidedChecks}
 use Rattle.passes.specs.Passes.{numbers, among}
@@ -162,13 +162,13 @@ module _ (t : Table) (s : List Float) (detections : ℕ) (f : Frame) (places : �
               from = above-delay (c .«hit_counter_max») (c .«initialization_delay») (w .delay-from) (w .delay-below);
               most = w .settings .maximum;
               fit = p .fit;
-              room = le-trans (mul-le-mul-right (blockSize c) (n .records)) (g .storage);
+              room = blocks-fit c (n .records) (g .storage);
               ranges = λ i h. object-in-range c (t .counts .frames) _ (w .object i zeroObject h (omega (arith, p .fit))) (n .frames);
             };
         decidable = p;
         dead = w .dead .count;
         places = le-trans room (w .settings .capacity .1);
-        blocks = le-trans (mul-le-mul-right (blockSize c) room) (g .storage);
+        blocks = blocks-fit c room (g .storage);
         opened = n .opened;
         permanent = omega (arith, n .permanent .1, n .opened);
         global = omega (arith, n .global, n .opened);

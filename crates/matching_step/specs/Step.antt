@@ -25,7 +25,7 @@ use Rattle.table.specs.declared.Counts.{Counts}
 use Rattle.table.specs.declared.Lists.{Lists}
 use Rattle.table.specs.declared.Table.{Table}
 use Rattle.table.specs.declared.Phase.the-variants.{Reid}
-use Rattle.table.specs.Making.{zeroObject, noNumbers}
+use Rattle.table.specs.Making.{zeroObject, noNumbers, candidatesOf}
 use Rattle.table.specs.Refusals.{firstDue}
 use Rattle.table.specs.Slots.{Slot, noSlot, recordsBack, floatsBack, tableSlots, AllInRange}
 use Rattle.pairs.specs.declared.Pair.{Pair}
@@ -158,7 +158,7 @@ listsAfter t first second =
       initializing = noNumbers;
       dead = noNumbers;
       old = numbersOf (oldOnes (t .counts .records) (numbers (t .lists .alive)) (numbers (t .lists .dead)) (pickedCols first));
-      candidates = numbersOf (pickedCols second);
+      candidates = candidatesOf (pickedCols second);
     }
 
 unfoldable pub matchTable : Table → List Float → ℕ → Frame → Table
@@ -174,7 +174,7 @@ matchTable t s detections f =
             initializing = noNumbers;
             dead = noNumbers;
             old = numbersOf (oldOnes (t .counts .records) (numbers (t .lists .alive)) (numbers (t .lists .dead)) (colsOf (firstHits t detections f)));
-            candidates = numbersOf (colsOf (secondHits t detections f));
+            candidates = candidatesOf (colsOf (secondHits t detections f));
           };
     }
 

@@ -44,7 +44,7 @@ fn decide(t: Table, detections: usize, distances: &[f64]) -> Decided
 
 // The lists that step 3 reads.
 fn lists_after(t: Table, first: Picks, second: Picks) -> Lists
-    requires { ⌜ (t .counts .records ≤ 64) × (t .lists .alive .count ≤ 64) × (t .lists .dead .count ≤ 64) × (first .count ≤ 32) × (second .count ≤ 32) ⌝ }
+    requires { ⌜ (t .counts .records ≤ 64) × (t .lists .alive .count ≤ 64) × (t .lists .dead .count ≤ 64) × (first .count ≤ 32) × (second ≡ picksOf (picked second)) ⌝ }
     ensures { λ r. ⌜ r ≡ listsAfter t first second ⌝ }
 {
     let none = making::no_numbers();

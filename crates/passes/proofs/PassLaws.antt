@@ -14,12 +14,16 @@ use Rattle.laws.specs.Turns.{through}
 use Rattle.laws.proofs.Every.{each-padded}
 use Rattle.laws.proofs.Growing.{length-filled, take-filled}
 use Rattle.matching.specs.declared.Numbers.{Numbers}
+use Rattle.matching.specs.declared.Picks.{Picks}
 use Rattle.matching.specs.Greedy.{Matrix, Pick, free, marked, cleared, rowsOf, colsOf}
 use Rattle.matching.specs.Lent.{picksOf}
 use Rattle.matching.specs.Unmatched.{unmatched, numbersOf}
 use Rattle.matching.proofs.Laws.{rows-taken, cols-taken}
+use Rattle.matching.proofs.Picked.{picked-cols}
 use Rattle.matching.proofs.Taken.{Taken, taken-append, taken-at-most, taken-below, taken-times, taken-once, used-not-taken}
-use Rattle.passes.specs.Passes.{numbers, firstPass, secondPass, among, leftOver, aliveLeft, oldOnes}
+use Rattle.table.specs.declared.Candidates.{Candidates}
+use Rattle.table.specs.Making.{candidatesOf}
+use Rattle.passes.specs.Passes.{numbers, pickedCols, firstPass, secondPass, among, leftOver, aliveLeft, oldOnes}
 use Rattle.laws.proofs.Counting.{times-append, times-keep, kept-at-most, times-below, below-once, not-held, no-times, held, few-below}
 
 -- ---- a struct of numbers lists what it was made of
@@ -40,6 +44,11 @@ module _ (l : List ℕ) {r : Numbers} (e : r ≡ numbersOf l) where
 
   pub count-inside : length l ≤ 64 → r .count ≤ length (r .at)
   count-inside h = rw e (omega (arith, length-filled 64 0 l h))
+
+-- ---- the candidates: the columns of picks, as the struct of picks lists them
+
+pub columns-listed : (l : List Pick) {p : Picks} → p ≡ picksOf l → _≡_ {A = Candidates} (record { at = p .cols; count = p .count }) (candidatesOf (pickedCols p))
+columns-listed l e = rw (e, picked-cols l, length-map l (λ q. q .col))
 
 -- ---- a pass from these flags on: each row and column was free when it was picked
 

@@ -5,10 +5,13 @@ ghost use mathlib.Core.List.{_++_};
 ghost use Prim.Native.Nat.{_≤_, _+_};
 ghost use lib.ListN.{length, take};
 ghost use Rattle.laws.specs.Lists.{keep, holds};
+ghost use Rattle.matching.specs.Lent.{picked, picksOf};
 ghost use Rattle.matching.specs.Unmatched.{numbersOf};
+ghost use Rattle.table.specs.Making.{candidatesOf};
 ghost use Rattle.passes.specs.Passes.{numbers, pickedRows, pickedCols, among, leftOver, oldOnes};
 use matching::Numbers;
 use matching::Picks;
+use table::Candidates;
 
 // Those of some numbers that are, or are not, among the first m of a list; order kept.
 fn keep_among(of: Numbers, list: &[usize], m: usize, wanted: bool) -> Numbers
@@ -78,15 +81,14 @@ pub fn old_ones(records: usize, alive: Numbers, dead: Numbers, first: Picks) -> 
     append(left, &unnamed_at, unnamed.count)
 }
 
-// The records that pass 2 hit, in hit order.
-pub fn candidates(second: Picks) -> Numbers
-    requires { ⌜ second .count ≤ 32 ⌝ }
-    ensures { λ r. ⌜ r ≡ numbersOf (pickedCols second) ⌝ }
+// The records that pass 2 hit, in hit order: its columns, 0 behind the last.
+pub fn candidates(second: Picks) -> Candidates
+    requires { ⌜ second ≡ picksOf (picked second) ⌝ }
+    ensures { λ r. ⌜ r ≡ candidatesOf (pickedCols second) ⌝ }
 {
-    let cols = second.cols;
-    let none = Numbers {
-        at: [0; 64],
-        count: 0,
-    };
-    append(none, &cols, second.count)
+    let at = second.cols;
+    Candidates {
+        at,
+        count: second.count,
+    }
 }

@@ -18,7 +18,7 @@ use Rattle.parts.specs.Ranges.{Sizes}
 use Rattle.tracked_object.specs.Object.{objectPredicted, blockPredicted}
 use Rattle.table.specs.declared.Table.{Table}
 use Rattle.table.specs.declared.Phase.the-variants.{Match}
-use Rattle.table.specs.Making.{zeroObject, noNumbers}
+use Rattle.table.specs.Making.{zeroObject, noNumbers, noCandidates}
 use Rattle.table.specs.Slots.{Slot, slots, objectsOf, recordsBack, floatsBack, tableSlots, AllInRange, names}
 use Rattle.predict.specs.declared.Sort.{Sort}
 use Rattle.predict.specs.declared.Sort.the-variants.{Alive, Initializing, Dead}
@@ -117,7 +117,7 @@ predictTable t s =
             initializing = placesOf (t .config) Initializing (length (slotsKept t s)) (objectsOf (slotsKept t s));
             dead = placesOf (t .config) Dead (length (slotsKept t s)) (objectsOf (slotsKept t s));
             old = noNumbers;
-            candidates = noNumbers;
+            candidates = noCandidates;
           };
     }
 

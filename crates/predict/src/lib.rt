@@ -166,6 +166,7 @@ pub fn predict_table(t: Table, s: &mut [f64]) -> Table
     let dead = sort_out(config, Sort::Dead, sorted, n);
     let predicted = predict_each(config, sorted, n, s);
     let none = making::no_numbers();
+    let candidates = making::no_candidates();
     Table {
         records: predicted,
         config,
@@ -183,7 +184,7 @@ pub fn predict_table(t: Table, s: &mut [f64]) -> Table
             initializing,
             dead,
             old: none,
-            candidates: none,
+            candidates,
         },
     }
 }

@@ -36,15 +36,23 @@ fn coordinate(storage: &[f64; 120], place: usize, k: usize) -> f64
     storage[15 * place + k]
 }
 
+// The i-th of these places, or none of the table's.
+fn place_at(places: &[usize], i: usize) -> usize {
+    if i < places.len() {
+        return places[i];
+    }
+    8
+}
+
 // Where the records at these places are.
-fn positions(storage: &[f64; 120], places: [usize; 64]) -> [f64; 16]
+fn positions(storage: &[f64; 120], places: &[usize]) -> [f64; 16]
     ensures { λ r. ⌜ 16 ≡ length r ⌝ }
 {
     let mut out = [0.0; 16];
     let mut i = 0;
     while i < 8 {
-        out[2 * i] = coordinate(storage, places[i], 0);
-        out[2 * i + 1] = coordinate(storage, places[i], 1);
+        out[2 * i] = coordinate(storage, place_at(places, i), 0);
+        out[2 * i + 1] = coordinate(storage, place_at(places, i), 1);
         i += 1;
     }
     out
@@ -130,7 +138,8 @@ pub(crate) fn detections_by_records(
     ensures { λ r. ⌜ r .count ≤ 64 ⌝ }
     ensures { λ r. ⌜ 64 ≡ length (r .entries) ⌝ }
 {
-    let to = positions(storage, every_place());
+    let places = every_place();
+    let to = positions(storage, &places);
     measured(points, detections, &to, records)
 }
 
@@ -143,7 +152,7 @@ pub(crate) fn candidates_by_old_ones(lists: Lists, storage: &[f64; 120]) -> Matr
     let old = lists.old;
     let rows = candidates.at;
     let columns = old.at;
-    let from = positions(storage, rows);
-    let to = positions(storage, columns);
+    let from = positions(storage, &rows);
+    let to = positions(storage, &columns);
     measured(&from, candidates.count, &to, old.count)
 }

@@ -9,6 +9,7 @@ use parts::PermanentId;
 use parts::ReidCounter;
 use parts::TrackedObject;
 use parts::TrackerConfig;
+use table::Candidates;
 use table::Counts;
 use table::Lists;
 use table::Phase;
@@ -177,20 +178,32 @@ fn same_records(a: [TrackedObject; 64], b: [TrackedObject; 64]) -> bool {
     true
 }
 
-fn same_numbers(a: Numbers, b: Numbers) -> bool {
-    let x = a.at;
-    let y = b.at;
-    if a.count != b.count {
+fn same_places(a: &[usize], b: &[usize]) -> bool {
+    if a.len() != b.len() {
         return false;
     }
     let mut i = 0;
-    while i < 64 {
-        if x[i] != y[i] {
-            return false;
+    while i < a.len() {
+        if i < b.len() {
+            if a[i] != b[i] {
+                return false;
+            }
         }
         i += 1;
     }
     true
+}
+
+fn same_numbers(a: Numbers, b: Numbers) -> bool {
+    let x = a.at;
+    let y = b.at;
+    laws::both(a.count == b.count, same_places(&x, &y))
+}
+
+fn same_candidates(a: Candidates, b: Candidates) -> bool {
+    let x = a.at;
+    let y = b.at;
+    laws::both(a.count == b.count, same_places(&x, &y))
 }
 
 fn same_lists(a: Lists, b: Lists) -> bool {
@@ -215,7 +228,7 @@ fn same_lists(a: Lists, b: Lists) -> bool {
         first,
         laws::both(
             same_numbers(old_a, old_b),
-            same_numbers(candidates_a, candidates_b),
+            same_candidates(candidates_a, candidates_b),
         ),
     )
 }

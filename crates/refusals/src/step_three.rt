@@ -7,6 +7,7 @@ use crate::step_two;
 use crate::stepped;
 use libc::STDOUT_FILENO;
 use matching::Numbers;
+use table::Candidates;
 use table::Phase;
 use table::Table;
 
@@ -23,6 +24,21 @@ fn places(first: usize, second: usize, n: usize) -> Numbers {
     Numbers { at, count: n }
 }
 
+// The front of a list, as candidates.
+fn front(list: Numbers) -> Candidates {
+    let from = list.at;
+    let mut at = [0usize; 32];
+    let mut i = 0;
+    while i < 32 {
+        at[i] = from[i];
+        i += 1;
+    }
+    Candidates {
+        at,
+        count: list.count,
+    }
+}
+
 // A table of two active records in step 3, with a ReID distance declared or not, and these lists.
 fn meeting(declared: bool, candidates: Numbers, old: Numbers) -> Table {
     let mut config = good();
@@ -31,7 +47,8 @@ fn meeting(declared: bool, candidates: Numbers, old: Numbers) -> Table {
     let fresh = tracker::new(config, &storage).table;
     let t = step_two::holding(fresh, 2, Phase::Reid);
     let mut lists = t.lists;
-    lists.candidates = candidates;
+    let rows = front(candidates);
+    lists.candidates = rows;
     lists.old = old;
     let mut next = t;
     next.lists = lists;
@@ -235,8 +252,8 @@ fn unsorted() {
     );
 }
 
-// A table of 33 records, all of them candidates, which no step 2 lists.
-fn crowd() -> Table {
+// A table of 33 records, of which so many are counted as candidates.
+fn crowd(candidates: usize) -> Table {
     let mut config = good();
     config.capacity = 64;
     config.has_reid_distance = true;
@@ -251,7 +268,8 @@ fn crowd() -> Table {
     let first = t.records;
     let o = first[1];
     let mut lists = t.lists;
-    lists.candidates = places(0, 1, 33);
+    let rows = front(places(0, 1, candidates));
+    lists.candidates = rows;
     lists.old = places(0, 1, 1);
     let mut next = t;
     next.records = [o; 64];
@@ -260,29 +278,32 @@ fn crowd() -> Table {
     next
 }
 
-// Of 33 candidates the first 32 take part.
+// A count of 33 is above the candidates' 32 places; of 32 the last is close.
 fn many() {
-    let t = crowd();
-    let mut storage = [0.25; 960];
-    let mut distances = [2.0; 33];
-    distances[32] = 0.5;
-    let mut active = [0u32; 64];
-    let a = tracker::reid(t, &mut storage, &distances, &mut active);
-    distances[31] = 0.5;
-    let b = tracker::reid(t, &mut storage, &distances, &mut active);
-    io::write_all(
-        STDOUT_FILENO,
-        b"step 3, 33 candidates, the 33rd close, then the 32nd too: ",
-    );
-    put_records(a);
-    io::write_all(STDOUT_FILENO, b"; ");
-    put_records(b);
-    io::write_all(STDOUT_FILENO, b"\n");
+    let mut more = [2.0; 33];
+    more[31] = 0.5;
+    of_candidates(&more);
+    let mut most = [2.0; 32];
+    most[31] = 0.5;
+    of_candidates(&most);
 }
 
-fn put_records(a: tracker::Answer) {
-    let table = a.table;
-    let counts = table.counts;
-    io::print_decimal(STDOUT_FILENO, a.refusal as u64);
+// As many candidates as distances to the one old record.
+fn of_candidates(distances: &[f64]) {
+    let n = distances.len();
+    let t = crowd(n);
+    let mut storage = [0.25; 960];
+    let before = [0.25; 960];
+    let mut active = [77u32; 64];
+    let a = tracker::reid(t, &mut storage, distances, &mut active);
+    let after = a.table;
+    let counts = after.counts;
+    put(b"step 3, candidates ", n);
+    put(b": ", a.refusal as usize);
     put(b", records ", counts.records);
+    let kept = laws::both(
+        same::same_tables(t, after),
+        laws::both(same::same_floats(&before, &storage), active[0] == 77),
+    );
+    put_kept(kept);
 }

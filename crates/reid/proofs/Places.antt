@@ -3,7 +3,7 @@ use mathlib.Core.Path.{_≡_, _∙_}
 use mathlib.Core.Bool.{Bool, true, false, cond}
 use mathlib.Core.List.{List, map, map-map}
 use Prim.Native.Nat.{ℕ, _*_, _≤_}
-use native.Mathlib.Nat.{mul-le-mul-right, le-trans, min-le-left, min-le-right}
+use native.Mathlib.Nat.{le-refl, le-trans}
 use native.Mathlib.Omega.{arith}
 use lib.Ieee.{Float}
 use lib.ListN.{length, getD, replicate, length-map}
@@ -18,12 +18,13 @@ use Rattle.matching.specs.Lent.{lent, picksOf, picked}
 use Rattle.matching.proofs.Laws.{rows-taken, cols-taken, at-most-rows}
 use Rattle.matching.proofs.Picked.{Inside, picked-of}
 use Rattle.matching.proofs.Taken.{taken-below}
+use Rattle.table.specs.declared.Candidates.{Candidates}
 use Rattle.table.specs.declared.Table.{Table}
-use Rattle.reid.specs.Step.{candidatesMet, rowsMet, reidMatrix, placed, merges, Meets}
+use Rattle.reid.specs.Step.{candidatesMet, reidMatrix, placed, merges, Meets}
 
 -- ---- as the loop of `places_of` lists them
 
-module _ (candidates old : Numbers) (p : Picks) where
+module _ (candidates : Candidates) (old : Numbers) (p : Picks) where
   abbrev pub rowAt : ℕ → ℕ
   rowAt k = getD (candidates .at) (getD (p .rows) k 0) 0
 
@@ -36,13 +37,13 @@ module _ (candidates old : Numbers) (p : Picks) where
 
 -- ---- what `decide` asks of the matching, and gets
 
--- few enough picks, each below a limit, as a struct lists them
-pub record Bounded (n : ℕ) (r : Picks) : Type 0 where
+-- few enough picks, rows and columns each below a limit, as a struct lists them
+pub record Bounded (m n : ℕ) (r : Picks) : Type 0 where
   pub few : r .count ≤ 32
-  pub rows : EachBelow n (r .count) (r .rows)
+  pub rows : EachBelow m (r .count) (r .rows)
   pub cols : EachBelow n (r .count) (r .cols)
 
-bounded : {n : ℕ} (l : List Pick) → length l ≤ 32 → Every (Inside n n) l → Bounded n (picksOf l)
+bounded : {m n : ℕ} (l : List Pick) → length l ≤ 32 → Every (Inside m n) l → Bounded m n (picksOf l)
 bounded l few all =
     record {
       few = few;
@@ -55,18 +56,19 @@ met-most true n = omega arith
 met-most false n = omega arith
 
 module _ (t : Table) (ds : List Float) (meets : Meets t (length ds)) where
-  rows-few : rowsMet t ≤ t .lists .candidates .count
-  rows-few = le-trans (min-le-right 32 (candidatesMet t)) (met-most (t .config .«has_reid_distance») (t .lists .candidates .count))
+  rows-few : candidatesMet t ≤ t .lists .candidates .count
+  rows-few = met-most (t .config .«has_reid_distance») (t .lists .candidates .count)
 
-  pub matrix-fits : {rows : ℕ} → rows ≡ rowsMet t → (rows ≤ 32) × (t .lists .old .count ≤ 64) × (rows * t .lists .old .count ≤ length ds)
-  matrix-fits e =
-      rw e
-      (min-le-left 32 (candidatesMet t), meets .old .0, rw (meets .lent) (mul-le-mul-right (t .lists .old .count) (min-le-right 32 (candidatesMet t))))
+  rows-most : candidatesMet t ≤ 32
+  rows-most = le-trans rows-few (meets .candidates .0)
+
+  pub matrix-fits : {rows : ℕ} → rows ≡ candidatesMet t → (rows ≤ 32) × (t .lists .old .count ≤ 64) × (rows * t .lists .old .count ≤ length ds)
+  matrix-fits e = rw (e, meets .lent) (rows-most, meets .old .0, le-refl _)
 
   abbrev found : List Pick
   found = picks (reidMatrix t ds) (replicate 32 false) (replicate 64 false)
 
-  found-within : Every (Inside (rowsMet t) (t .lists .old .count)) found
+  found-within : Every (Inside (candidatesMet t) (t .lists .old .count)) found
   found-within =
       let ur = replicate 32 false in
       let uc = replicate 64 false in
@@ -75,18 +77,18 @@ module _ (t : Table) (ds : List Float) (meets : Meets t (length ds)) where
       (every-unmap (λ p. p .col) found (taken-below (cols-taken (reidMatrix t ds) ur uc)))
 
   found-few : length found ≤ 32
-  found-few = le-trans (at-most-rows (reidMatrix t ds) (replicate 32 false) (replicate 64 false)) (min-le-left 32 (candidatesMet t))
+  found-few = le-trans (at-most-rows (reidMatrix t ds) (replicate 32 false) (replicate 64 false)) rows-most
 
   -- the picks that the matching returned
-  module _ {rows : ℕ} {r : Picks} (e : rows ≡ rowsMet t)
+  module _ {rows : ℕ} {r : Picks} (e : rows ≡ candidatesMet t)
       (picked-by : r ≡ picksOf (picks (lent ds rows (t .lists .old .count) (t .config .«reid_distance_threshold»)) (replicate 32 false) (replicate 64 false))) where
     same : r ≡ picksOf found
     same = rw e at picked-by
 
-    pub picks-bounded : Bounded 64 r
+    pub picks-bounded : Bounded 32 64 r
     picks-bounded =
         rw same
-        (bounded found found-few (every-weaker (λ p w. (omega (arith, w .0, rows-few, meets .candidates .0), omega (arith, w .1, meets .old .0))) found-within))
+        (bounded found found-few (every-weaker (λ p w. (omega (arith, w .0, rows-most), omega (arith, w .1, meets .old .0))) found-within))
 
     pub places-merges : {q : Picks} → q ≡ picksOf (map (placed (t .lists .candidates) (t .lists .old)) (picked r)) → q ≡ picksOf (merges t ds)
     unfolding merges
@@ -104,5 +106,5 @@ module _ (t : Table) (ds : List Float) (meets : Meets t (length ds)) where
   unfolding merges
   merges-few = rw (length-map found (placed (t .lists .candidates) (t .lists .old))) found-few
 
-  pub merges-bounded : {q : Picks} → q ≡ picksOf (merges t ds) → Bounded (t .counts .records) q
+  pub merges-bounded : {q : Picks} → q ≡ picksOf (merges t ds) → Bounded (t .counts .records) (t .counts .records) q
   merges-bounded e = rw e (bounded (merges t ds) merges-few merges-within)

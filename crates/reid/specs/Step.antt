@@ -2,7 +2,7 @@
 use mathlib.Core.Path.{_≡_}
 use mathlib.Core.Bool.{Bool, true, false, not, cond, _&&_}
 use mathlib.Core.List.{List, [], _∷_, _++_, map}
-use Prim.Native.Nat.{ℕ, _+_, _*_, _<_, _≤_, min}
+use Prim.Native.Nat.{ℕ, _+_, _*_, _<_, _≤_}
 use lib.Dec.{ltb, eqb}
 use lib.IntN.{pos}
 use lib.ListN.{length, getD, set, take, replicate}
@@ -21,6 +21,7 @@ use Rattle.parts.specs.declared.TrackedObject.{TrackedObject}
 use Rattle.parts.specs.Layout.{blockSize}
 use Rattle.parts.specs.Ranges.{Sizes}
 use Rattle.tracked_object.specs.Object.{objectMerged, blockMerged}
+use Rattle.table.specs.declared.Candidates.{Candidates}
 use Rattle.table.specs.declared.Table.{Table}
 use Rattle.table.specs.declared.Phase.the-variants.{Predict, Reid}
 use Rattle.table.specs.Making.{noLists}
@@ -42,15 +43,11 @@ abbrev pub reidChecks : Table → ℕ → ℕ → ℕ → List Check
 reidChecks t floats distances places =
     stepChecks Reid t floats ++ (check 10 (not (eqb distances (distancesAsked t))) ∷ check 11 (ltb places (t .config .capacity)) ∷ [])
 
--- a step 2 lists at most 32 candidates; of an altered table's the first 32 take part
-abbrev pub rowsMet : Table → ℕ
-rowsMet t = min 32 (candidatesMet t)
-
 abbrev pub reidMatrix : Table → List Float → Matrix
-reidMatrix t distances = lent distances (rowsMet t) (t .lists .old .count) (t .config .«reid_distance_threshold»)
+reidMatrix t distances = lent distances (candidatesMet t) (t .lists .old .count) (t .config .«reid_distance_threshold»)
 
 -- a pick by places in the table: the candidate in the row, the old one in the column
-abbrev pub placed : Numbers → Numbers → Pick → Pick
+abbrev pub placed : Candidates → Numbers → Pick → Pick
 placed candidates old p = record { row = getD (candidates .at) (p .row) 0; col = getD (old .at) (p .col) 0 }
 
 unfoldable pub merges : Table → List Float → List Pick
@@ -149,14 +146,15 @@ stayingOf l records = record { records = recordsBack l records; count = length l
 
 -- ---- what the public call has once no refusal is due
 
-abbrev pub Named : ℕ → Numbers → Type 0
-Named records l = (l .count ≤ 64) × EachBelow records (l .count) (l .at)
+-- in a list of so many places
+abbrev pub Named : ℕ → ℕ → ℕ → List ℕ → Type 0
+Named places records n at = (n ≤ places) × EachBelow records n at
 
 -- the lists name records, and the matrix fits them
 pub record Meets (t : Table) (distances : ℕ) : Type 0 where
   pub lent : distances ≡ distancesAsked t
-  pub candidates : Named (t .counts .records) (t .lists .candidates)
-  pub old : Named (t .counts .records) (t .lists .old)
+  pub candidates : Named 32 (t .counts .records) (t .lists .candidates .count) (t .lists .candidates .at)
+  pub old : Named 64 (t .counts .records) (t .lists .old .count) (t .lists .old .at)
 
 pub record Ready (t : Table) (floats distances : ℕ) : Type 0 where
   pub sizes : Sizes (t .config)

@@ -1,7 +1,7 @@
 // Rules 10, 11 and 60: the refusals of step 3 in their order, and who meets whom.
 ghost use mathlib.Core.Path.{_≡_};
 ghost use mathlib.Core.Bool.{cond};
-ghost use Prim.Native.Nat.{_≤_, _*_, min};
+ghost use Prim.Native.Nat.{_≤_, _*_};
 ghost use Rattle.table.specs.Refusals.{firstDue};
 ghost use Rattle.reid.specs.Step.{reidChecks};
 use parts::TrackerConfig;
@@ -11,24 +11,13 @@ use table::making;
 use table::refusals;
 
 // The candidates that meet the old ones: none if no ReID distance is declared.
-fn candidates_met(config: TrackerConfig, candidates: usize) -> usize
+pub fn candidates_met(config: TrackerConfig, candidates: usize) -> usize
     ensures { λ r. ⌜ r ≡ cond (config .«has_reid_distance») candidates 0 ⌝ }
 {
     if config.has_reid_distance {
         return candidates;
     }
     0
-}
-
-// Of these at most 32.
-pub fn rows_met(config: TrackerConfig, candidates: usize) -> usize
-    ensures { λ r. ⌜ r ≡ min 32 (cond (config .«has_reid_distance») candidates 0) ⌝ }
-{
-    let n = candidates_met(config, candidates);
-    if 32 < n {
-        return 32;
-    }
-    n
 }
 
 // The first refusal of step 3.

@@ -30,7 +30,7 @@ fn decide(t: Table, distances: &[f64]) -> Picks
     let lists = t.lists;
     let candidates = lists.candidates;
     let old = lists.old;
-    let rows = checks::rows_met(config, candidates.count);
+    let rows = checks::candidates_met(config, candidates.count);
     let picks = matching::match_detections_and_objects(
         distances,
         rows,

@@ -19,10 +19,11 @@ use parts::TrackedObject;
 use parts::TrackerConfig;
 use parts::block;
 use parts::past;
+use table::Candidates;
 
 // The picks by places in the table: the candidate's and the old one's.
-pub fn places_of(candidates: Numbers, old: Numbers, picks: Picks) -> Picks
-    requires { ⌜ (picks .count ≤ 32) × EachBelow 64 (picks .count) (picks .rows) × EachBelow 64 (picks .count) (picks .cols) ⌝ }
+pub fn places_of(candidates: Candidates, old: Numbers, picks: Picks) -> Picks
+    requires { ⌜ (picks .count ≤ 32) × EachBelow 32 (picks .count) (picks .rows) × EachBelow 64 (picks .count) (picks .cols) ⌝ }
     ensures { λ r. ⌜ r ≡ picksOf (map (placed candidates old) (picked picks)) ⌝ }
 {
     let from = candidates.at;

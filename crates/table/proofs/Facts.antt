@@ -1,8 +1,9 @@
 -- Rule 14 as facts: what the tests of a whole table say, in numbers.
 use mathlib.Core.Path.{_≡_, refl}
 use mathlib.Core.Bool.{true, false, not}
-use mathlib.Core.List.{[], _∷_}
-use Prim.Native.Nat.{ℕ, _+_, _<_, _≤_}
+use mathlib.Core.List.{List, [], _∷_}
+use Prim.Native.Nat.{ℕ, _+_, _*_, _<_, _≤_}
+use native.Mathlib.Nat.{le-trans, mul-le-mul-right}
 use native.Mathlib.Omega.{arith}
 use borrow.Author.Tests.{leb-true, ltb-false, eqb-true, not-true, not-false}
 use lib.Dec.{leb, ltb, eqb}
@@ -10,7 +11,6 @@ use lib.IntN.{ℤ, pos, negsuc}
 use lib.ListN.{length, take, getD}
 use lib.Signed.{mag, leZ}
 use Rattle.laws.specs.Lists.{holds}
-use Rattle.matching.specs.declared.Numbers.{Numbers}
 use Rattle.parts.specs.declared.ReidCounter.{ReidCounter}
 use Rattle.parts.specs.declared.ReidCounter.the-variants.{Absent, Present}
 use Rattle.parts.specs.declared.TrackedObject.{TrackedObject}
@@ -21,7 +21,8 @@ use Rattle.parts.proofs.Bounds.{coords-most, width-most, history-most}
 use Rattle.table.specs.declared.Counts.{Counts}
 use Rattle.table.specs.declared.Table.{Table}
 use Rattle.table.specs.Ranges.{between, signedBetween, reidBetween, settingsInRange, delayNegative, delayTooLong}
-use Rattle.table.specs.Wholeness.{settingsWhole, countsWhole, pointsWhole, agesWhole, recordWhole, recordsWhole, namesBelow, listWhole, listsWhole, wholeTable}
+use Rattle.table.specs.Refusals.{storageNeed}
+use Rattle.table.specs.Wholeness.{settingsWhole, countsWhole, pointsWhole, agesWhole, recordWhole, recordsWhole, namesBelow, placesWhole, listWhole, candidatesWhole, listsWhole, wholeTable}
 use Rattle.table.proofs.Chain.{parts}
 use Rattle.table.proofs.Names.{name-facts}
 use Rattle.table.proofs.Passing.{none-found}
@@ -93,6 +94,11 @@ sizes-of c h =
 
 pub block-most : (c : TrackerConfig) → Sizes c → blockSize c ≤ 864
 block-most c h = omega (arith, coords-most c h, width-most c h, history-most c h)
+
+-- a storage of the need holds the blocks of as many records as there is room for
+pub blocks-fit : (c : TrackerConfig) {n floats : ℕ} → n ≤ c .capacity → storageNeed c ≤ floats → n * blockSize c ≤ floats
+unfolding storageNeed
+blocks-fit c few enough = le-trans (mul-le-mul-right (blockSize c) few) enough
 
 -- ---- counts
 
@@ -187,18 +193,19 @@ object-in-range c frames o f few =
 
 -- ---- a list
 
-pub record ListFacts (records : ℕ) (l : Numbers) : Type 0 where
-  pub count : l .count ≤ 64
-  pub named : (i : ℕ) → i < l .count → getD (l .at) i 0 < records
-  pub new : (i : ℕ) → i < l .count → holds (getD (l .at) i 0) (take i (l .at)) ≡ false
+-- of so many places
+pub record ListFacts (places records n : ℕ) (at : List ℕ) : Type 0 where
+  pub count : n ≤ places
+  pub named : (i : ℕ) → i < n → getD at i 0 < records
+  pub new : (i : ℕ) → i < n → holds (getD at i 0) (take i at) ≡ false
 
-pub list-facts : (records : ℕ) (l : Numbers) → listWhole records l ≡ true → ListFacts records l
-list-facts records l h =
-    let p = parts (leb (l .count) 64) (namesBelow records (l .count) (l .at) ∷ []) h in
+pub list-facts : (places records n : ℕ) (at : List ℕ) → placesWhole places records n at ≡ true → ListFacts places records n at
+list-facts places records n at h =
+    let p = parts (leb n places) (namesBelow records n at ∷ []) h in
     record {
-      count = leb-true _ 64 (p .0);
-      named = λ i lt. name-facts records (l .at) (l .count) (p .1) i lt .0;
-      new = λ i lt. name-facts records (l .at) (l .count) (p .1) i lt .1;
+      count = leb-true n places (p .0);
+      named = λ i lt. name-facts records at n (p .1) i lt .0;
+      new = λ i lt. name-facts records at n (p .1) i lt .1;
     }
 
 -- ---- the table
@@ -212,11 +219,11 @@ pub record WholeFacts (t : Table) : Type 0 where
   -- of each record in the table, whatever stands behind the array's end
   pub object : (i : ℕ) (d : TrackedObject) → i < t .counts .records → i < length (t .records)
       → RecordFacts (t .config) (t .counts .frames) (getD (t .records) i d)
-  pub alive : ListFacts (t .counts .records) (t .lists .alive)
-  pub initializing : ListFacts (t .counts .records) (t .lists .initializing)
-  pub dead : ListFacts (t .counts .records) (t .lists .dead)
-  pub old : ListFacts (t .counts .records) (t .lists .old)
-  pub candidates : ListFacts (t .counts .records) (t .lists .candidates)
+  pub alive : ListFacts 64 (t .counts .records) (t .lists .alive .count) (t .lists .alive .at)
+  pub initializing : ListFacts 64 (t .counts .records) (t .lists .initializing .count) (t .lists .initializing .at)
+  pub dead : ListFacts 64 (t .counts .records) (t .lists .dead .count) (t .lists .dead .at)
+  pub old : ListFacts 64 (t .counts .records) (t .lists .old .count) (t .lists .old .at)
+  pub candidates : ListFacts 32 (t .counts .records) (t .lists .candidates .count) (t .lists .candidates .at)
 
 pub whole-facts : (t : Table) → wholeTable t ≡ true → WholeFacts t
 unfolding wholeTable recordsWhole listsWhole
@@ -236,7 +243,7 @@ whole-facts t h =
     listWhole n (t .lists .initializing)
     ∷ listWhole n (t .lists .dead)
     ∷ listWhole n (t .lists .old)
-    ∷ listWhole n (t .lists .candidates)
+    ∷ candidatesWhole n (t .lists .candidates)
     ∷ []
     ) (p .1 .1 .1)
     in
@@ -251,9 +258,9 @@ whole-facts t h =
           record-facts (t .config) (t .counts .frames) (getD (t .records) i d)
           (not-false _
           (none-found (λ o. not (recordWhole (t .config) (t .counts .frames) o)) n (t .records) d (p .1 .1 .0) i lt (λ behind. absurd (omega arith))));
-      alive = list-facts n (t .lists .alive) (ls .0);
-      initializing = list-facts n (t .lists .initializing) (ls .1 .0);
-      dead = list-facts n (t .lists .dead) (ls .1 .1 .0);
-      old = list-facts n (t .lists .old) (ls .1 .1 .1 .0);
-      candidates = list-facts n (t .lists .candidates) (ls .1 .1 .1 .1);
+      alive = list-facts 64 n (t .lists .alive .count) (t .lists .alive .at) (ls .0);
+      initializing = list-facts 64 n (t .lists .initializing .count) (t .lists .initializing .at) (ls .1 .0);
+      dead = list-facts 64 n (t .lists .dead .count) (t .lists .dead .at) (ls .1 .1 .0);
+      old = list-facts 64 n (t .lists .old .count) (t .lists .old .at) (ls .1 .1 .1 .0);
+      candidates = list-facts 32 n (t .lists .candidates .count) (t .lists .candidates .at) (ls .1 .1 .1 .1);
     }

@@ -4,12 +4,12 @@ use mathlib.Core.List.{List}
 use Prim.Native.Nat.{ℕ, zero, suc}
 use lib.Dec.{eqb}
 use lib.IntN.{ℤ, pos, negsuc}
-use lib.ListN.{replicate}
+use lib.ListN.{length, replicate}
 use lib.Signed.{quotZ}
 use lib.Ieee.{Float}
 use Rattle.laws.specs.Float64.{f0}
+use Rattle.laws.specs.Lists.{padded}
 use Rattle.matching.specs.declared.Numbers.{Numbers}
-use Rattle.matching.specs.Unmatched.{numbersOf}
 use Rattle.filter.specs.declared.FilterSettings.{FilterSettings}
 use Rattle.parts.specs.declared.TrackerConfig.{TrackerConfig}
 use Rattle.parts.specs.declared.TrackedObject.{TrackedObject}
@@ -17,6 +17,7 @@ use Rattle.parts.specs.declared.PastDetection.{PastDetection}
 use Rattle.parts.specs.declared.ReidCounter.the-variants.{Absent}
 use Rattle.parts.specs.declared.PermanentId.the-variants.{Unissued}
 use Rattle.parts.specs.declared.LastDistance.the-variants.{Never}
+use Rattle.table.specs.declared.Candidates.{Candidates}
 use Rattle.table.specs.declared.Counts.{Counts}
 use Rattle.table.specs.declared.Lists.{Lists}
 use Rattle.table.specs.declared.Phase.the-variants.{Predict}
@@ -91,8 +92,15 @@ zeroObject =
 abbrev pub noNumbers : Numbers
 noNumbers = record { at = replicate 64 0; count = 0 }
 
+-- the candidates in order, 0 behind the last
+abbrev pub candidatesOf : List ℕ → Candidates
+candidatesOf l = record { at = padded 32 l; count = length l }
+
+abbrev pub noCandidates : Candidates
+noCandidates = record { at = replicate 32 0; count = 0 }
+
 abbrev pub noLists : Lists
-noLists = record { alive = noNumbers; initializing = noNumbers; dead = noNumbers; old = noNumbers; candidates = noNumbers }
+noLists = record { alive = noNumbers; initializing = noNumbers; dead = noNumbers; old = noNumbers; candidates = noCandidates }
 
 abbrev pub zeroCounts : Counts
 zeroCounts = record { records = 0; frames = 0; opened = 0; permanent = 0; global = 0; initializing = 0 }

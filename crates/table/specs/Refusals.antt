@@ -25,7 +25,7 @@ firstDue [] = 0
 firstDue (c ∷ l) = cond (c .due) (c .number) (firstDue l)
 
 -- C × (6PK + (L+1)(PK+P))
-abbrev pub storageNeed : TrackerConfig → ℕ
+unfoldable pub storageNeed : TrackerConfig → ℕ
 storageNeed c = c .capacity * blockSize c
 
 abbrev pub storageShort : TrackerConfig → ℕ → Bool

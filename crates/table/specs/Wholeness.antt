@@ -10,6 +10,7 @@ use Rattle.matching.specs.declared.Numbers.{Numbers}
 use Rattle.parts.specs.declared.TrackerConfig.{TrackerConfig}
 use Rattle.parts.specs.declared.TrackedObject.{TrackedObject}
 use Rattle.parts.specs.declared.PastDetection.{PastDetection}
+use Rattle.table.specs.declared.Candidates.{Candidates}
 use Rattle.table.specs.declared.Counts.{Counts}
 use Rattle.table.specs.declared.Lists.{Lists}
 use Rattle.table.specs.declared.Table.{Table}
@@ -54,15 +55,21 @@ unfoldable pub namesBelow : ℕ → ℕ → List ℕ → Bool
 namesBelow limit zero l = true
 namesBelow limit (suc k) l = namesBelow limit k l && (ltb (getD l k 0) limit && not (holds (getD l k 0) (take k l)))
 
--- a list names records in the table, none twice
+-- a list of so many places names records in the table, none twice
+abbrev pub placesWhole : ℕ → ℕ → ℕ → List ℕ → Bool
+placesWhole places records count at = leb count places && namesBelow records count at
+
 abbrev pub listWhole : ℕ → Numbers → Bool
-listWhole records l = leb (l .count) 64 && namesBelow records (l .count) (l .at)
+listWhole records l = placesWhole 64 records (l .count) (l .at)
+
+abbrev pub candidatesWhole : ℕ → Candidates → Bool
+candidatesWhole records l = placesWhole 32 records (l .count) (l .at)
 
 unfoldable pub listsWhole : ℕ → Lists → Bool
 listsWhole records l =
     listWhole records (l .alive)
     && (listWhole records (l .initializing)
-    && (listWhole records (l .dead) && (listWhole records (l .old) && listWhole records (l .candidates))))
+    && (listWhole records (l .dead) && (listWhole records (l .old) && candidatesWhole records (l .candidates))))
 
 unfoldable pub wholeTable : Table → Bool
 wholeTable t =

@@ -26,13 +26,19 @@ pub struct Counts {
     pub initializing: u32,
 }
 
+// Records hit in pass 2, in hit order, 0 behind the last: at most one for each of 32 detections.
+pub struct Candidates {
+    pub at: [usize; 32],
+    pub count: usize,
+}
+
 // The lists kept between steps, of places in the table: from step 1 the alive, the initializing and the dead; from step 2 the old ones and the candidates.
 pub struct Lists {
     pub alive: Numbers,
     pub initializing: Numbers,
     pub dead: Numbers,
     pub old: Numbers,
-    pub candidates: Numbers,
+    pub candidates: Candidates,
 }
 
 pub struct Table {

@@ -3,8 +3,9 @@ ghost use mathlib.Core.Path.{_≡_};
 ghost use mathlib.Core.Bool.{true};
 ghost use Rattle.table.specs.Ranges.{settingsInRange};
 ghost use Rattle.table.specs.Refusals.{firstDue, storageNeed, makingChecks, stepChecks, predictChecks, phaseNumber, isNext};
-ghost use Rattle.table.specs.Making.{settledDelay, settled, noNumbers, noLists, zeroObject, emptyTable, zeroTable, freshTable, made};
+ghost use Rattle.table.specs.Making.{settledDelay, settled, noNumbers, noCandidates, noLists, zeroObject, emptyTable, zeroTable, freshTable, made};
 use crate::Answer;
+use crate::Candidates;
 use crate::Counts;
 use crate::Lists;
 use crate::Phase;
@@ -130,17 +131,28 @@ pub fn no_numbers() -> Numbers
     }
 }
 
+// No candidate.
+pub fn no_candidates() -> Candidates
+    ensures { λ r. ⌜ r ≡ noCandidates ⌝ }
+{
+    Candidates {
+        at: [0; 32],
+        count: 0,
+    }
+}
+
 // No list is kept.
 pub fn no_lists() -> Lists
     ensures { λ r. ⌜ r ≡ noLists ⌝ }
 {
     let none = no_numbers();
+    let candidates = no_candidates();
     Lists {
         alive: none,
         initializing: none,
         dead: none,
         old: none,
-        candidates: none,
+        candidates,
     }
 }
 

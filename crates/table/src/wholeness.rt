@@ -6,6 +6,7 @@ ghost use Rattle.table.specs.Wholeness.{pointsWhole, agesWhole, recordWh
 use crate::Counts;
 use crate::Lists;
 use crate::Table;
+use crate::listed::are_candidates_whole;
 use crate::listed::is_list_whole;
 use crate::ranges;
 use parts::PastDetection;
@@ -121,7 +122,7 @@ fn are_lists_whole(lists: Lists, records: usize) -> bool
     let b = is_list_whole(initializing, records);
     let c = is_list_whole(dead, records);
     let d = is_list_whole(old, records);
-    let e = is_list_whole(candidates, records);
+    let e = are_candidates_whole(candidates, records);
     laws::both(a, laws::both(b, laws::both(c, laws::both(d, e))))
 }
 

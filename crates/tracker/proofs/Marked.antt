@@ -6,10 +6,10 @@ use Rattle.laws.specs.Worked.{Agree}
 use Rattle.matching.specs.Greedy.{smaller, scanRow, scanRows, pickThen, greedy}
 use Rattle.parts.specs.Life.{lifeOpened, lifePredicted, lifeHit}
 use Rattle.table.specs.Ranges.{settingsInRange, reidBetween}
-use Rattle.table.specs.Refusals.{firstDue}
+use Rattle.table.specs.Refusals.{firstDue, storageNeed}
 use Rattle.table.specs.Making.{made}
 use Rattle.tracker.specs.Marked.{speltPicks, markedNumbers}
 
 pub marked-numbers : Agree markedNumbers
-unfolding Agree markedNumbers made firstDue settingsInRange reidBetween speltPicks greedy pickThen scanRows scanRow smaller finite lt ofBits toBits add sub mul div lifeOpened lifePredicted lifeHit
+unfolding Agree markedNumbers made firstDue storageNeed settingsInRange reidBetween speltPicks greedy pickThen scanRows scanRow smaller finite lt ofBits toBits add sub mul div lifeOpened lifePredicted lifeHit
 marked-numbers = (refl, (refl, (refl, (refl, (refl, (refl, (refl, (refl, (refl, (refl, (refl, (refl, tt))))))))))))

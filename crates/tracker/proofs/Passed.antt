@@ -1,8 +1,8 @@
 -- Rule 40: what the host passes to step 2 before the pair list: eight parameters, for a walk by hand of a call, whatever stands behind them.
 use mathlib.Core.List.{List, _∷_}
 use Prim.Native.Nat.{ℕ}
-use lib.Ieee.{Float}
-use mir.Syntax.{named, w32, w64}
+use lib.Ieee.{Float, binary64}
+use mir.Syntax.{Ty, Lifetime, Mutability, Local, local, valueLocal, named, imm, mut, w8, w32, w64, tyInt, tyFloat, tyRef}
 use base.Fml.{Lft}
 use contract.Lifetimes.{Lfts}
 use denote.RattleType.{RattleType}
@@ -10,7 +10,7 @@ use denote.Laws.{Is, Ises, Spells, Tells, Tellss}
 use denote.Plain.{uint-vals, uint-tells}
 use denote.Builtin.{f64, u8, u32, usize}
 use denote.Ref.{RefT, now}
-use denote.Slice.{slice-vals, mut-slice-tells, shr-slice-tells, MutSlice, ShrSlice}
+use denote.Slice.{sliceTy, slice-vals, mut-slice-tells, shr-slice-tells, MutSlice, ShrSlice}
 use denote.Struct.Laws as LL
 use Rattle.table.specs.declared.Table.{Table}
 use Rattle.table.proofs.Table as T
@@ -49,3 +49,19 @@ module _ (κs : Lfts 5) (Rs : List RattleType) where
     told tl =
         let slice : (i : ℕ) (κ : Lft) (R : RattleType) → Tells (ShrSlice (named i) κ R) (Is (ShrSlice (named i) κ R)) slice-vals = λ i. shr-slice-tells (named i) in
         (LL.tells T.the-type T′.the-laws, (mut-slice-tells (named 0) (κs .0) f64, (uint-tells w32, (uint-tells w64, (slice 1 (κs .1 .0) f64, (slice 2 (κs .1 .1 .0) f64, (slice 3 (κs .1 .1 .1 .0) u8, (slice 4 (κs .1 .1 .1 .1 .0) f64, tl))))))))
+
+-- a list that is lent, as MIR writes its type; and the locals of the eight, before others. The table's type is a parameter: antt would write it out at each step of a walk
+abbrev pub lentTy : Lifetime → Mutability → Ty → Ty
+lentTy ℓ m τ = sliceTy (tyRef ℓ m τ)
+
+abbrev pub localsOf : Ty → List Local → List Local
+localsOf table others =
+    local table valueLocal
+    ∷ local (lentTy (named 0) mut (tyFloat binary64)) valueLocal
+    ∷ local (tyInt w32) valueLocal
+    ∷ local (tyInt w64) valueLocal
+    ∷ local (lentTy (named 1) imm (tyFloat binary64)) valueLocal
+    ∷ local (lentTy (named 2) imm (tyFloat binary64)) valueLocal
+    ∷ local (lentTy (named 3) imm (tyInt w8)) valueLocal
+    ∷ local (lentTy (named 4) imm (tyFloat binary64)) valueLocal
+    ∷ others

@@ -1,17 +1,14 @@
 -- Rules 11 and 14: what steps 1 and 3 have once none of their refusals is due.
 use mathlib.Core.Path.{_≡_, refl, sym, _∙_}
 use mathlib.Core.Bool.{true, false, not}
-use Prim.Native.Nat.{ℕ, _*_, _<_, _≤_}
-use native.Mathlib.Nat.{le-trans, mul-le-mul-right}
+use Prim.Native.Nat.{ℕ, _<_, _≤_}
 use native.Mathlib.Omega.{arith}
 use borrow.Author.Tests.{ltb-false, leb-false, eqb-true, not-false}
 use lib.ListN.{length}
-use Rattle.parts.specs.Layout.{blockSize}
 use Rattle.table.specs.declared.Table.{Table}
 use Rattle.table.specs.Making.{zeroObject}
 use Rattle.table.specs.Refusals.{firstDue, storageNeed, predictChecks}
-use Rattle.matching.specs.declared.Numbers.{Numbers}
-use Rattle.table.proofs.Facts.{ListFacts, whole-facts, sizes-of, object-in-range}
+use Rattle.table.proofs.Facts.{whole-facts, sizes-of, blocks-fit, object-in-range}
 use Rattle.table.proofs.Due.{NoneDue, none-due}
 use Rattle.predict.specs.Step.{Ready}
 use Rattle.reid.specs.Step as reid
@@ -25,7 +22,7 @@ ready t floats long e =
     record {
       sizes = sizes-of c (f .in-range);
       fit = omega (arith, f .counts .records, f .settings .capacity .1);
-      room = le-trans (mul-le-mul-right (blockSize c) (f .counts .records)) (ltb-false floats (storageNeed c) (due .1 .0));
+      room = blocks-fit c (f .counts .records) (ltb-false floats (storageNeed c) (due .1 .0));
       ranges = λ i h. object-in-range c (t .counts .frames) _ (f .object i zeroObject h (omega (arith, f .counts .records, f .settings .capacity .1))) (f .counts .frames);
       frames = f .counts .frames;
     }
@@ -36,18 +33,17 @@ pub reid-ready : (t : Table) (floats distances places : ℕ) → length (t .reco
 reid-ready t floats distances places long e =
     let due = none-due (reidChecks t floats distances places) (omega arith, (omega arith, (omega arith, (omega arith, (omega arith, tt))))) e in
     let f = whole-facts t (not-false _ (due .0)) in
-    let c = t .config in
-    let named : (l : Numbers) → ListFacts (t .counts .records) l → reid.Named (t .counts .records) l = λ l g. (g .count, g .named) in (
+    let c = t .config in (
       record {
         sizes = sizes-of c (f .in-range);
         fit = omega (arith, f .counts .records, f .settings .capacity .1);
-        room = le-trans (mul-le-mul-right (blockSize c) (f .counts .records)) (ltb-false floats (storageNeed c) (due .1 .0));
+        room = blocks-fit c (f .counts .records) (ltb-false floats (storageNeed c) (due .1 .0));
         ranges = λ i h. object-in-range c (t .counts .frames) _ (f .object i zeroObject h (omega (arith, f .counts .records, f .settings .capacity .1))) (f .counts .frames);
         meets =
             record {
               lent = eqb-true distances _ (not-false _ (due .1 .1 .1 .0));
-              candidates = named (t .lists .candidates) (f .candidates);
-              old = named (t .lists .old) (f .old);
+              candidates = (f .candidates .count, f .candidates .named);
+              old = (f .old .count, f .old .named);
             };
       },
       omega (arith, f .counts .records, ltb-false places (c .capacity) (due .1 .1 .1 .1 .0)),

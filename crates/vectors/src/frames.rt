@@ -78,7 +78,7 @@ fn step_3(
     text: &mut [u8; 65536],
     c: &mut [usize; 6],
 ) -> Table {
-    let candidates = reading::few(text, c, 64);
+    let candidates = reading::few(text, c, 32);
     let old = reading::few(text, c, 64);
     let measured = reading::area(candidates, old);
     let distances = reading::floats(text, c, measured);

@@ -46,9 +46,12 @@ predict-each-requires c κs =
 no-numbers-requires : tie.Need-no-numbers-requires
 no-numbers-requires c κs = search needs
 
-add-t19 : tie.Need-add-t19
-add-t19 c =
-    let d = c .before .before .before .before .before .before .before .before .before .before .before .before in
+no-candidates-requires : tie.Need-no-candidates-requires
+no-candidates-requires c κs = search needs
+
+add-t20 : tie.Need-add-t20
+add-t20 c =
+    let d = c .before .before .before .before .before .before .before .before .before .before .before .before .before in
     record { fits = omega (arith, given d .pre .frames) }
 
 same-length : tie.Need-same-length
@@ -57,7 +60,7 @@ same-length c = search needs
 returns : tie.Need-returns
 unfolding predictTable predictFloats
 returns c =
-    let each = c .before .before .before .before in
+    let each = c .before .before .before .before .before in
     let dead = each .before .before in
     let initializing = dead .before in
     let alive = initializing .before in
@@ -72,7 +75,8 @@ returns c =
         alive .sort-out .ensures ∙ places Alive,
         initializing .sort-out2 .ensures ∙ places Initializing,
         dead .sort-out3 .ensures ∙ places Dead,
-        c .before .no-numbers .ensures,
+        c .before .before .no-numbers .ensures,
+        c .before .no-candidates .ensures,
       ),
       each .predict-each .ensures .1 ∙ floats-predicted (a .t .config) (a .t .counts .records) (a .t .records) (a .s .now) room (e .0) (e .1),
     )
@@ -87,6 +91,7 @@ predict-table-spec =
     sort-out-requires-3
     predict-each-requires
     no-numbers-requires
-    add-t19
+    no-candidates-requires
+    add-t20
     same-length
     returns)

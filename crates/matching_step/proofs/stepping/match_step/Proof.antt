@@ -1,13 +1,16 @@
 -- `matching_step::stepping::match_step` meets its contract: pass 1, pass 2 and the opening, each on what the part before put back.
+use mathlib.Core.Path.{_≡_}
 use mathlib.Core.List.{List, []}
 use Prim.Native.Nat.{ℕ, _≤_}
 use native.Mathlib.Omega.{arith}
 use lib.Ieee.{Float}
 use lib.ListN.{length}
+use Rattle.matching.specs.Lent.{picksOf, picked}
+use Rattle.matching.proofs.Picked.{picked-of}
 use Rattle.table.specs.declared.Table.{Table}
 use Rattle.passes.specs.Checks.{Frame, frame}
 use Rattle.matching_step.specs.declared.Stepped.{Stepped}
-use Rattle.matching_step.specs.Step.{State, afterFirst, afterSecond, afterOpening, matchFloats}
+use Rattle.matching_step.specs.Step.{State, secondHits, afterFirst, afterSecond, afterOpening, matchFloats}
 use Rattle.matching_step.proofs.Again.{counted-again, holds-again}
 use Rattle.matching_step.proofs.Chain.{first-rows, first-cols, second-rows, second-cols, left-below, after-first, after-second, permanent-first, permanent-second, opened-second, global-second, initializing-second, put-first, put-second, put-third, whole-length, table-is}
 use Rattle.matching_step.proofs.Deciding.{few-hits}
@@ -26,6 +29,10 @@ few : (b : tie.Start) → (b .args .decided .first .count ≤ 32) × (b .args .d
 few b =
     let n = length (b .args .has-scores .now) in
     rw (b .pre .1) (omega (arith, few-hits (b .args .t) n (lent b), b .pre .0 .decidable .few), omega (arith, few-hits (b .args .t) n (lent b), b .pre .0 .decidable .few))
+
+-- the picks of pass 2 stand as they were listed
+second-listed : (b : tie.Start) → b .args .decided .second ≡ picksOf (picked (b .args .decided .second))
+second-listed b = rw (b .pre .1, picked-of (secondHits (b .args .t) (length (b .args .has-scores .now)) (lent b)))
 
 -- ---- what each part put back, on what the part before left
 
@@ -116,7 +123,7 @@ lists-after-requires : tie.Need-lists-after-requires
 lists-after-requires c κs =
     let b = begun (c .before .before .before .before) in
     let r = b .pre .0 in
-    (r .decidable .fit, r .decidable .alive .0, r .dead, few b .0, few b .1)
+    (r .decidable .fit, r .decidable .alive .0, r .dead, few b .0, second-listed b)
 
 abbrev opened : tie.After-lists-after → tie.After-open-each
 opened c = c .before .before .before .before .before

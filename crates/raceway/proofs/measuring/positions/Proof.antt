@@ -15,11 +15,8 @@ abbrev μ-loop : tie.MeasureT-loop
 loop-holds : tie.Need-loop-holds Inv-loop μ-loop
 loop-holds c = search needs
 
-mul-coordinate : tie.Need-mul-coordinate Inv-loop μ-loop
-mul-coordinate c = search needs
-
-array-read-coordinate : tie.Need-array-read-coordinate Inv-loop μ-loop
-array-read-coordinate c = search needs
+place-at-requires : tie.Need-place-at-requires Inv-loop μ-loop
+place-at-requires c κs = search needs
 
 coordinate-requires : tie.Need-coordinate-requires Inv-loop μ-loop
 coordinate-requires c κs = search needs
@@ -33,11 +30,8 @@ mul-out-2 c = search needs
 array-write-out : tie.Need-array-write-out Inv-loop μ-loop
 array-write-out c = search needs
 
-mul-coordinate-2 : tie.Need-mul-coordinate-2 Inv-loop μ-loop
-mul-coordinate-2 c = search needs
-
-array-read-coordinate-2 : tie.Need-array-read-coordinate-2 Inv-loop μ-loop
-array-read-coordinate-2 c = search needs
+place-at-requires-2 : tie.Need-place-at-requires-2 Inv-loop μ-loop
+place-at-requires-2 c κs = search needs
 
 coordinate-requires-2 : tie.Need-coordinate-requires-2 Inv-loop μ-loop
 coordinate-requires-2 c κs = search needs
@@ -73,14 +67,12 @@ positions-spec =
     Inv-loop
     μ-loop
     loop-holds
-    mul-coordinate
-    array-read-coordinate
+    place-at-requires
     coordinate-requires
     mul-out
     mul-out-2
     array-write-out
-    mul-coordinate-2
-    array-read-coordinate-2
+    place-at-requires-2
     coordinate-requires-2
     mul-out-3
     add-out

@@ -27,7 +27,7 @@ given l = l .before .before .before .before .before
 within : (c : tie.Then1 Inv-loop μ-loop)
     → let l = c .before .before in
     let p = given l .args .picks in
-    (getD (p .rows) (l .loop .i) 0 < 64) × (getD (p .cols) (l .loop .i) 0 < 64)
+    (getD (p .rows) (l .loop .i) 0 < 32) × (getD (p .cols) (l .loop .i) 0 < 64)
 within c =
     let l = c .before .before in
     let p = given l .pre in

@@ -10,10 +10,13 @@ use Rattle.table.proofs.listed.are_names.Statement.{statement}
 use Rattle.table.proofs.listed.are_names.Tie as tie
 
 abbrev Inv-loop : tie.InvT-loop
-Inv-loop n limit at i₀ i = (i ≤ n) × (namesBelow limit i at ≡ true)
+Inv-loop at n limit i₀ i = (i ≤ n) × (namesBelow limit i at ≡ true)
 
 abbrev μ-loop : tie.MeasureT-loop
-μ-loop n limit at i₀ i = n - i
+μ-loop at n limit i₀ i = n - i
+
+abbrev given : tie.At-loop Inv-loop μ-loop → tie.Start Inv-loop μ-loop
+given l = l .before .before
 
 loop-holds : tie.Need-loop-holds Inv-loop μ-loop
 unfolding namesBelow
@@ -22,25 +25,23 @@ loop-holds c = (search needs, refl)
 mul-x : tie.Need-mul-x Inv-loop μ-loop
 mul-x c = search needs
 
-array-read-x : tie.Need-array-read-x Inv-loop μ-loop
-array-read-x c = search needs
+shared-slice-read-x : tie.Need-shared-slice-read-x Inv-loop μ-loop
+shared-slice-read-x c = search needs
 
 returns : tie.Need-returns Inv-loop μ-loop
 returns c =
-    let s = c .before .before .before in
-    sym (too-large (s .args .limit) (s .args .t1) (c .before .before .loop .i) (s .args .n) (c .before .loop-test .taken) (c .if1 .taken))
-
-slice-aggregate-is-among : tie.Need-slice-aggregate-is-among Inv-loop μ-loop
-slice-aggregate-is-among c = search needs
+    let in-loop = c .before .before in
+    let s = given (in-loop .before) in
+    sym (too-large (s .args .limit) (s .args .at .now) (in-loop .before .loop .i) (s .args .n) (in-loop .loop-test .taken) (c .if1 .taken))
 
 is-among-requires : tie.Need-is-among-requires Inv-loop μ-loop
 is-among-requires c κs = search needs
 
 returns-2 : tie.Need-returns-2 Inv-loop μ-loop
 returns-2 c =
-    let at = c .before .before .before .before in
-    let s = at .before .before in
-    sym (twice (s .args .limit) (s .args .t1) (at .before .loop .i) (s .args .n) (at .loop-test .taken) (sym (c .before .is-among .ensures) ∙ c .if2 .taken))
+    let in-loop = c .before .before .before .before in
+    let s = given (in-loop .before) in
+    sym (twice (s .args .limit) (s .args .at .now) (in-loop .before .loop .i) (s .args .n) (in-loop .loop-test .taken) (sym (c .before .is-among .ensures) ∙ c .if2 .taken))
 
 add-i : tie.Need-add-i Inv-loop μ-loop
 add-i c = search needs
@@ -50,16 +51,16 @@ loop-less c = search needs
 
 loop-again : tie.Need-loop-again Inv-loop μ-loop
 loop-again c =
-    let in-loop = c .before .before .before .before in
-    let s = in-loop .before .before in (
+    let l = c .before .before .before .before .before in
+    let s = given l in (
       omega arith,
-      new-name (s .args .limit) (s .args .t1) (in-loop .before .loop .i) (in-loop .before .loop .inv .1) (c .before .before .before .if1 .left)
+      new-name (s .args .limit) (s .args .at .now) (l .loop .i) (l .loop .inv .1) (c .before .before .if1 .left)
           (sym (c .before .is-among .ensures) ∙ c .if2 .left),
     )
 
 returns-3 : tie.Need-returns-3 Inv-loop μ-loop
 returns-3 c =
-    let e : c .before .loop .i ≡ c .before .before .args .n = omega arith in
+    let e : c .before .loop .i ≡ given (c .before) .args .n = omega arith in
     sym (rw e at (c .before .loop .inv .1))
 
 pub are-names-spec : {M : Type 1} → statement M
@@ -70,9 +71,8 @@ are-names-spec =
     μ-loop
     loop-holds
     mul-x
-    array-read-x
+    shared-slice-read-x
     returns
-    slice-aggregate-is-among
     is-among-requires
     returns-2
     add-i

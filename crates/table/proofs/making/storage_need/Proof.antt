@@ -2,6 +2,7 @@
 use Prim.Native.Nat.{_≤_}
 use native.Mathlib.Nat.{mul-le-mul}
 use native.Mathlib.Omega.{arith}
+use Rattle.table.specs.Refusals.{storageNeed}
 use Rattle.table.proofs.Facts.{settings-facts, sizes-of, block-most}
 use Rattle.table.proofs.making.storage_need.Statement.{statement}
 use Rattle.table.proofs.making.storage_need.Tie as tie
@@ -16,6 +17,7 @@ mul-result c =
     record { fits = omega (arith, mul-le-mul (settings-facts (s .args .config) (s .pre) .capacity .1) size) }
 
 returns : tie.Need-returns
+unfolding storageNeed
 returns c = rw (c .before .before .layout-of .ensures)
 
 pub storage-need-spec : {M : Type 1} → statement M

@@ -16,8 +16,8 @@ is-list-whole-requires-3 c κs = search needs
 is-list-whole-requires-4 : tie.Need-is-list-whole-requires-4
 is-list-whole-requires-4 c κs = search needs
 
-is-list-whole-requires-5 : tie.Need-is-list-whole-requires-5
-is-list-whole-requires-5 c κs = search needs
+are-candidates-whole-requires : tie.Need-are-candidates-whole-requires
+are-candidates-whole-requires c κs = search needs
 
 both-requires : tie.Need-both-requires
 both-requires c κs = search needs
@@ -40,7 +40,7 @@ returns c =
       c .before .both3 .ensures,
       c .before .before .both2 .ensures,
       c .before .before .before .both .ensures,
-      asked .is-list-whole5 .ensures,
+      asked .are-candidates-whole .ensures,
       asked .before .is-list-whole4 .ensures,
       asked .before .before .is-list-whole3 .ensures,
       asked .before .before .before .is-list-whole2 .ensures,
@@ -55,7 +55,7 @@ are-lists-whole-spec =
     is-list-whole-requires-2
     is-list-whole-requires-3
     is-list-whole-requires-4
-    is-list-whole-requires-5
+    are-candidates-whole-requires
     both-requires
     both-requires-2
     both-requires-3
