@@ -1,5 +1,6 @@
--- Rules 61, 63 and 75: a record that is its own old one, two that absorb each other, and refusal 13 in mid-day: run by the checker.
+-- Rules 14, 32, 61, 63 and 75: a record that is its own old one, two that absorb each other, altered tables that step 1 leaves not whole, and refusal 13 in mid-day: run by the checker.
 use mathlib.Core.Path.{_≡_, refl}
+use mathlib.Core.Bool.{true, false}
 use mathlib.Core.List.{List, [], _∷_, map}
 use Prim.Native.Nat.{ℕ}
 use lib.ListN.{replicate}
@@ -23,9 +24,9 @@ use Rattle.matching_step.specs.Step.{firstHits, secondHits, toOpen, afterFirst,
 use Rattle.matching_step.specs.Account.{matchAccount}
 use Rattle.reid.specs.Step.{merges, slotsMerged, slotsStaying, reidTable, reidFloats, absorbed}
 use Rattle.tracker.specs.Calls.{predictAnswer, predictStorage, matchAnswer, reidAnswer, reidStorage}
-use Rattle.ledger.specs.History.{after, refusalOf, entryOf, joined, waiting, goesOn, dayOf}
+use Rattle.ledger.specs.History.{World, predict, after, refusalOf, entryOf, joined, waiting, goesOn, dayOf}
 use Rattle.ledger.specs.Demand.{gather, entries, everOpened}
-use Rattle.ledger.specs.Examples.{settings, half, far, meeting, floats, untilTooMany, tooMany, carryingOn}
+use Rattle.ledger.specs.Examples.{settings, half, far, meeting, floats, lowestHit, lowestReid, seen, untilTooMany, tooMany, carryingOn}
 
 -- record 1 is candidate and old one: it leaves
 pub own-old-one : (tableNames (reidTable (meeting (0 ∷ []) (0 ∷ [])) floats (half ∷ [])) ≡ 2 ∷ [])
@@ -38,6 +39,25 @@ pub absorb-each-other : (tableNames (reidTable (meeting (0 ∷ 1 ∷ []) (1 ∷ 
     × (map (λ a. a .name) (absorbed (meeting (0 ∷ 1 ∷ []) (1 ∷ 0 ∷ [])) floats (half ∷ far ∷ far ∷ half ∷ [])) ≡ 1 ∷ 2 ∷ [])
 unfolding reidTable slotsStaying slotsMerged merges absorbed through greedy pickThen scanRows scanRow smaller finite lt ofBits keep below any slots objectMerged
 absorb-each-other = (refl, refl)
+
+-- ---- step 1 on a table that was altered: whole and accepted, and what it leaves is not whole, so that the next call answers 5
+
+abbrev LeftUnwhole : World → Type 0
+LeftUnwhole w =
+    (wholeTable (w .table) ≡ true)
+    × (refusalOf predict w ≡ 0)
+    × (wholeTable (after predict w .table) ≡ false)
+    × (refusalOf (seen 0 []) (after predict w) ≡ 5)
+
+-- a hit counter falls below -20,000
+pub hit-below-range : LeftUnwhole lowestHit
+unfolding after firstDue storageNeed settingsInRange reidBetween wholeTable countsWhole recordsWhole recordWhole pointsWhole agesWhole listsWhole namesBelow any keep below slots blocksOf predictAnswer predictStorage predictTable predictFloats objectPredicted lifePredicted pointsFallen turns
+hit-below-range = (refl, refl, refl, refl)
+
+-- a ReID counter falls below -1
+pub reid-below-range : LeftUnwhole lowestReid
+unfolding after firstDue storageNeed settingsInRange reidBetween wholeTable countsWhole recordsWhole recordWhole pointsWhole agesWhole listsWhole namesBelow any keep below slots blocksOf predictAnswer predictStorage predictTable predictFloats objectPredicted lifePredicted pointsFallen turns
+reid-below-range = (refl, refl, refl, refl)
 
 -- ---- room for one record: the frame that asks for two more is refused with 13, and the day goes on
 

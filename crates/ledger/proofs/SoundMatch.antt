@@ -103,10 +103,11 @@ module _ (t : Table) (s : List Float) (detections : ℕ) (f : Frame) (places : �
       let alive = numbers (t .lists .alive) in
       let dead = numbers (t .lists .dead) in
       let hit = colsOf (firstHits t detections f) in
+      let once = ready t s detections f places (sound .long) none-is .dead .1 in
       record {
-        few = le-trans (old-few (t .counts .records) alive dead hit) (sound-fit sound);
-        once = old-once (t .counts .records) alive dead hit;
-        inside = λ x past. old-below (t .counts .records) alive dead hit x (le-trans h past);
+        few = le-trans (old-few (t .counts .records) alive dead hit once) (sound-fit sound);
+        once = old-once (t .counts .records) alive dead hit once;
+        inside = λ x past. old-below (t .counts .records) alive dead hit once x (le-trans h past);
       }
 
   candidates-distinct : {n : ℕ} → t .counts .records ≤ n → Distinct 32 n (colsOf (secondHits t detections f))

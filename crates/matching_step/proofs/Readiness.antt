@@ -29,7 +29,7 @@ use Rattle.table.proofs.Facts.{WholeFacts, whole-facts, sizes-of, blocks-fit, o
 use Rattle.passes.specs.declared.Lengths.{Lengths}
 use Rattle.passes.specs.Checks.{Frame, frame, lengthsOf, givenChecks, decidedChecks}
 use Rattle.passes.specs.Passes.{numbers, among}
-use Rattle.passes.proofs.PassLaws.{first-passed, second-passed, rows-inside, cols-inside}
+use Rattle.passes.proofs.PassLaws.{first-passed, second-passed, rows-inside, cols-inside, names-once}
 use Rattle.matching_step.specs.declared.Decided.{Decided}
 use Rattle.matching_step.specs.declared.Matched.{Matched}
 use Rattle.matching_step.specs.Step.{matrixOf, firstHits, secondHits, toOpen, matchTable, matchFloats, pairOf, pairsOf, matchRefusal, noPair, refusedWith, matched, matchedFloats, decidedOf, Decidable, Ready}
@@ -166,7 +166,7 @@ module _ (t : Table) (s : List Float) (detections : ℕ) (f : Frame) (places : �
               ranges = λ i h. object-in-range c (t .counts .frames) _ (w .object i zeroObject h (omega (arith, p .fit))) (n .frames);
             };
         decidable = p;
-        dead = w .dead .count;
+        dead = (w .dead .count, names-once (w .dead));
         places = le-trans room (w .settings .capacity .1);
         blocks = blocks-fit c room (g .storage);
         opened = n .opened;

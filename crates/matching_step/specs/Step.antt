@@ -30,7 +30,7 @@ use Rattle.table.specs.Refusals.{firstDue}
 use Rattle.table.specs.Slots.{Slot, noSlot, recordsBack, floatsBack, tableSlots, AllInRange}
 use Rattle.pairs.specs.declared.Pair.{Pair}
 use Rattle.passes.specs.Checks.{Frame, matchChecks}
-use Rattle.passes.specs.Passes.{numbers, pickedCols, firstPass, secondPass, leftOver, oldOnes}
+use Rattle.passes.specs.Passes.{numbers, pickedCols, firstPass, secondPass, leftOver, oldOnes, NamesOnce}
 use Rattle.matching_step.specs.declared.Decided.{Decided}
 use Rattle.matching_step.specs.declared.Stepped.{Stepped}
 use Rattle.matching_step.specs.declared.Matched.{Matched}
@@ -268,7 +268,7 @@ pub record Ready (t : Table) (floats detections : ℕ) (f : Frame) : Type 0 wher
   pub fits : Fits (t .config) f
   pub holding : Holds (t .config) (t .counts .records) (t .records) floats
   pub decidable : Decidable t detections (length (f .distances))
-  pub dead : t .lists .dead .count ≤ 64
+  pub dead : (t .lists .dead .count ≤ 64) × NamesOnce (t .counts .records) (numbers (t .lists .dead))
   pub places : t .counts .records + length (toOpen t detections f) ≤ 64
   pub blocks : (t .counts .records + length (toOpen t detections f)) * blockSize (t .config) ≤ floats
   pub opened : t .counts .opened ≤ 2000000000

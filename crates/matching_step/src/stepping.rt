@@ -7,6 +7,7 @@ ghost use Rattle.laws.specs.Lists.{EachBelow, filled};
 ghost use Rattle.matching.specs.Lent.{picksOf, picked};
 ghost use Rattle.matching.specs.Unmatched.{numbersOf};
 ghost use Rattle.passes.specs.Checks.{frame};
+ghost use Rattle.passes.specs.Passes.{numbers, NamesOnce};
 ghost use Rattle.matching_step.specs.Step.{firstHits, secondHits, toOpen, matchTable, matchFloats, matchRefusal, accepted, listsAfter, decidedOf, pairOf, noPair, refusedWith, matched, matchedFloats, Decidable, Ready};
 use crate::Decided;
 use crate::Matched;
@@ -44,7 +45,7 @@ fn decide(t: Table, detections: usize, distances: &[f64]) -> Decided
 
 // The lists that step 3 reads.
 fn lists_after(t: Table, first: Picks, second: Picks) -> Lists
-    requires { ⌜ (t .counts .records ≤ 64) × (t .lists .alive .count ≤ 64) × (t .lists .dead .count ≤ 64) × (first .count ≤ 32) × (second ≡ picksOf (picked second)) ⌝ }
+    requires { ⌜ (t .counts .records ≤ 64) × (t .lists .alive .count ≤ 64) × (t .lists .dead .count ≤ 64) × (first .count ≤ 32) × NamesOnce (t .counts .records) (numbers (t .lists .dead)) × (second ≡ picksOf (picked second)) ⌝ }
     ensures { λ r. ⌜ r ≡ listsAfter t first second ⌝ }
 {
     let none = making::no_numbers();

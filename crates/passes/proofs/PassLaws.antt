@@ -2,13 +2,13 @@
 use mathlib.Core.Path.{_≡_, refl, sym, _∙_, ap}
 use mathlib.Core.Bool.{Bool, true, false, true≢false, not, _&&_, _||_, cond}
 use mathlib.Core.List.{List, [], _∷_, _++_}
-use Prim.Native.Nat.{ℕ, zero, suc, _+_, _≤_, zero-le}
+use Prim.Native.Nat.{ℕ, zero, suc, _+_, _<_, _≤_, zero-le}
 use native.Mathlib.Nat.{le-refl, le-trans}
 use native.Mathlib.Omega.{arith}
-use borrow.Author.Tests.{eqb-false, le-ltb}
+use borrow.Author.Tests.{eqb-true, eqb-false, ltb-true, ltb-false, lt-ltb, le-ltb}
 use lib.Dec.{eqb, ltb}
-use lib.ListN.{length, set, replicate, length-append, length-map}
-use lib.Seq.{getD-set-other}
+use lib.ListN.{length, getD, set, take, replicate, length-append, length-map}
+use lib.Seq.{getD-set-other, take-suc, take-all}
 use Rattle.laws.specs.Lists.{below, keep, any, holds, times, EachBelow}
 use Rattle.laws.specs.Turns.{through}
 use Rattle.laws.proofs.Every.{each-padded}
@@ -23,7 +23,8 @@ use Rattle.matching.proofs.Picked.{picked-cols}
 use Rattle.matching.proofs.Taken.{Taken, taken-append, taken-at-most, taken-below, taken-times, taken-once, used-not-taken}
 use Rattle.table.specs.declared.Candidates.{Candidates}
 use Rattle.table.specs.Making.{candidatesOf}
-use Rattle.passes.specs.Passes.{numbers, pickedCols, firstPass, secondPass, among, leftOver, aliveLeft, oldOnes}
+use Rattle.table.proofs.Facts.{ListFacts}
+use Rattle.passes.specs.Passes.{numbers, pickedCols, firstPass, secondPass, among, leftOver, aliveLeft, oldOnes, NamesOnce}
 use Rattle.laws.proofs.Counting.{times-append, times-keep, kept-at-most, times-below, below-once, not-held, no-times, held, few-below}
 
 -- ---- a struct of numbers lists what it was made of
@@ -177,21 +178,12 @@ then-others x k a l most also = rw (times-append x a (keep (among false a) l), t
     go true h = omega arith
     go false h = omega (arith, not-held x a h)
 
--- where nothing is matched all numbers are left
-keep-all : (l : List ℕ) → keep (λ i. not (holds i [])) l ≡ l
-unfolding keep any
-keep-all [] = refl
-keep-all (x ∷ l) = ap (λ (r : List ℕ). x ∷ r) (keep-all l)
-
-pub none-matched : (n : ℕ) → unmatched n [] ≡ below n
-none-matched n = keep-all (below n)
-
-module _ (records : ℕ) (alive dead hit : List ℕ) where
-  old-most : (x : ℕ) → times x (oldOnes records alive dead hit) ≤ times x (below records)
+module _ (records : ℕ) (alive dead hit : List ℕ) (named : NamesOnce records dead) where
+  old-most : NamesOnce records (oldOnes records alive dead hit)
   old-most x =
-      then-others x (times x (below records)) (aliveLeft records alive hit) (keep (among true dead) (below records))
+      then-others x (times x (below records)) (aliveLeft records alive hit) dead
       (le-trans (kept-at-most x (among true alive) (unmatched records hit)) (kept-at-most x (λ i. not (holds i hit)) (below records)))
-      (kept-at-most x (among true dead) (below records))
+      (named x)
 
   pub old-once : (x : ℕ) → times x (oldOnes records alive dead hit) ≤ 1
   old-once x = le-trans (old-most x) (below-once x records)
@@ -201,3 +193,31 @@ module _ (records : ℕ) (alive dead hit : List ℕ) where
 
   pub old-few : length (oldOnes records alive dead hit) ≤ records
   old-few = few-below records (oldOnes records alive dead hit) old-most
+
+-- ---- a list of a whole table names each place once
+
+module _ {places records n : ℕ} {at : List ℕ} (facts : ListFacts places records n at) where
+  -- one name more, which is new and a place in the table
+  next-once : (k : ℕ) → k < n → NamesOnce records (take k at) → NamesOnce records (take k at ++ (getD at k 0 ∷ []))
+  unfolding times
+  next-once k h before x = rw (times-append x (take k at) (getD at k 0 ∷ [])) (go (eqb (getD at k 0) x) refl)
+    where
+      go : (b : Bool) → eqb (getD at k 0) x ≡ b → times x (take k at) + (cond b 1 0 + 0) ≤ times x (below records)
+      go true e =
+          let q : getD at k 0 ≡ x = eqb-true _ _ e in
+          rw (times-below x records, lt-ltb x records (rw q at (facts .named k h))) (omega (arith, not-held x (take k at) (rw q at (facts .new k h))))
+      go false e = omega (arith, before x)
+
+  first-once : (k : ℕ) → k ≤ n → NamesOnce records (take k at)
+  unfolding times
+  first-once zero h = λ x. zero-le
+  first-once (suc k) h = go (first-once k (omega arith)) (ltb k (length at)) refl
+    where
+      go : NamesOnce records (take k at) → (b : Bool) → ltb k (length at) ≡ b → NamesOnce records (take (suc k) at)
+      go before true e = rw (take-suc at k 0 (ltb-true _ _ e)) (next-once k h before)
+      go before false e =
+          let past = ltb-false k (length at) e in
+          rw (take-all (suc k) at (omega arith)) (rw (take-all k at past) at before)
+
+  pub names-once : NamesOnce records (take n at)
+  names-once = first-once n (le-refl n)

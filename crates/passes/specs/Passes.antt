@@ -1,9 +1,9 @@
 -- Rules 43, 44 and 48: both passes, who is left over, the old ones and the candidates.
 use mathlib.Core.Bool.{Bool, true, false, not, cond}
 use mathlib.Core.List.{List, [], _++_}
-use Prim.Native.Nat.{ℕ}
+use Prim.Native.Nat.{ℕ, _≤_}
 use lib.ListN.{take, replicate}
-use Rattle.laws.specs.Lists.{below, keep, holds}
+use Rattle.laws.specs.Lists.{below, keep, holds, times}
 use Rattle.matching.specs.declared.Numbers.{Numbers}
 use Rattle.matching.specs.declared.Picks.{Picks}
 use Rattle.matching.specs.Greedy.{Matrix, Pick, marked, cleared, picks}
@@ -45,7 +45,10 @@ leftOver total first second = keep (among false second) (unmatched total first)
 abbrev pub aliveLeft : ℕ → List ℕ → List ℕ → List ℕ
 aliveLeft records alive hit = keep (among true alive) (unmatched records hit)
 
--- then each dead one not already named
+-- then each dead one, in the order in which it is listed, that is not already named
 abbrev pub oldOnes : ℕ → List ℕ → List ℕ → List ℕ → List ℕ
-oldOnes records alive dead hit =
-    aliveLeft records alive hit ++ keep (among false (aliveLeft records alive hit)) (keep (among true dead) (below records))
+oldOnes records alive dead hit = aliveLeft records alive hit ++ keep (among false (aliveLeft records alive hit)) dead
+
+-- a list of places in the table, none twice
+abbrev pub NamesOnce : ℕ → List ℕ → Type 0
+NamesOnce records l = (x : ℕ) → times x l ≤ times x (below records)

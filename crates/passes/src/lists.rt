@@ -8,7 +8,7 @@ ghost use Rattle.laws.specs.Lists.{keep, holds};
 ghost use Rattle.matching.specs.Lent.{picked, picksOf};
 ghost use Rattle.matching.specs.Unmatched.{numbersOf};
 ghost use Rattle.table.specs.Making.{candidatesOf};
-ghost use Rattle.passes.specs.Passes.{numbers, pickedRows, pickedCols, among, leftOver, oldOnes};
+ghost use Rattle.passes.specs.Passes.{numbers, pickedRows, pickedCols, among, leftOver, oldOnes, NamesOnce};
 use matching::Numbers;
 use matching::Picks;
 use table::Candidates;
@@ -63,20 +63,17 @@ pub fn left_over(total: usize, first: Picks, second: Picks) -> Numbers
     keep_among(left, &second_rows, second.count, false)
 }
 
-// The alive that pass 1 left, ascending, then each dead one not already named.
+// The alive that pass 1 left, ascending, then each dead one, in the order in which it is listed, that is not already named.
 pub fn old_ones(records: usize, alive: Numbers, dead: Numbers, first: Picks) -> Numbers
-    requires { ⌜ (records ≤ 64) × (alive .count ≤ 64) × (dead .count ≤ 64) × (first .count ≤ 32) ⌝ }
+    requires { ⌜ (records ≤ 64) × (alive .count ≤ 64) × (dead .count ≤ 64) × (first .count ≤ 32) × NamesOnce records (numbers dead) ⌝ }
     ensures { λ r. ⌜ r ≡ numbersOf (oldOnes records (numbers alive) (numbers dead) (pickedCols first)) ⌝ }
 {
     let cols = first.cols;
     let alive_at = alive.at;
-    let dead_at = dead.at;
     let unmatched = matching::get_unmatched(records, cols, first.count);
     let left = keep_among(unmatched, &alive_at, alive.count, true);
     let left_at = left.at;
-    let every = matching::get_unmatched(records, cols, 0);
-    let dead_ones = keep_among(every, &dead_at, dead.count, true);
-    let unnamed = keep_among(dead_ones, &left_at, left.count, false);
+    let unnamed = keep_among(dead, &left_at, left.count, false);
     let unnamed_at = unnamed.at;
     append(left, &unnamed_at, unnamed.count)
 }

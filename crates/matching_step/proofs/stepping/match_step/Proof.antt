@@ -123,7 +123,7 @@ lists-after-requires : tie.Need-lists-after-requires
 lists-after-requires c κs =
     let b = begun (c .before .before .before .before) in
     let r = b .pre .0 in
-    (r .decidable .fit, r .decidable .alive .0, r .dead, few b .0, second-listed b)
+    (r .decidable .fit, r .decidable .alive .0, r .dead .0, few b .0, r .dead .1, second-listed b)
 
 abbrev opened : tie.After-lists-after → tie.After-open-each
 opened c = c .before .before .before .before .before
