@@ -158,9 +158,10 @@ pub fn merge_life(l: Life, initial_period: u32) -> Life
     ensures { λ r. ⌜ r ≡ lifeMerged «initial_period» l ⌝ }
 {
     let id = l.id;
+    let revived = doubled(initial_period);
     Life {
         age: l.age,
-        hit_counter: doubled(initial_period),
+        hit_counter: revived,
         reid_hit_counter: ReidCounter::Absent,
         is_initializing: l.is_initializing,
         id,

@@ -86,9 +86,9 @@ pub fn decided_refusal(config: TrackerConfig, counts: Counts, points: &[f64], mo
     requires { ⌜ (counts .records ≤ 64) × (counts .opened ≤ 2000000000) × (more ≤ 64) ⌝ }
     ensures { λ r. ⌜ r ≡ firstDue (decidedChecks config counts (now (points .entry)) more) ⌝ }
 {
-    let broken = !are_finite(points);
+    let not_finite = !are_finite(points);
     let full = config.capacity < counts.records + more;
-    if broken {
+    if not_finite {
         return refusals::NOT_FINITE;
     }
     if full {

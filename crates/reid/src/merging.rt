@@ -107,7 +107,7 @@ pub fn merge_each(
     records
 }
 
-// Whether a place is the candidate's of some pick.
+// Whether a place is the candidate's of some pick: it leaves even where it is an old one's too.
 fn leaves(places: Picks, place: usize) -> bool
     requires { ⌜ (places .count ≤ length (places .rows)) × (places .count ≤ length (places .cols)) ⌝ }
     ensures { λ r. ⌜ r ≡ holds place (take (places .count) (places .rows)) ⌝ }

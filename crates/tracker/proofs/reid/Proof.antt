@@ -1,5 +1,5 @@
 -- `tracker::reid` meets its contract: once no refusal is due the core runs and the active are listed, and else nothing is touched.
-use mathlib.Core.Path.{_≡_, refl, sym, _∙_, ap}
+use mathlib.Core.Path.{_≡_}
 use Prim.Native.Nat.{_≤_}
 use native.Mathlib.Omega.{arith}
 use borrow.Author.Needs.{needs}

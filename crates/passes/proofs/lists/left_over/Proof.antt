@@ -4,10 +4,7 @@ use native.Mathlib.Nat.{le-trans}
 use native.Mathlib.Omega.{arith}
 use borrow.Author.Needs.{needs}
 use lib.ListN.{length, length-map}
-use Rattle.matching.specs.declared.Numbers.{Numbers}
-use Rattle.matching.specs.Unmatched.{unmatched, numbersOf}
 use Rattle.matching.proofs.Left.{at-most-total}
-use Rattle.passes.specs.Passes.{numbers}
 use Rattle.passes.proofs.PassLaws.{numbers-of}
 use Rattle.passes.proofs.lists.left_over.Statement.{statement}
 use Rattle.passes.proofs.lists.left_over.Tie as tie
