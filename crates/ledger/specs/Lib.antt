@@ -1,4 +1,4 @@
--- The ledger: any sequence of public calls, what each did, and what demand 3 asks of it.
+-- The ledger: any sequence of public calls, what each did, what demand 3 asks of it, and what the host sees.
 pub mod History
 pub mod Demand
 pub mod Shown
