@@ -1,4 +1,6 @@
 // Step 2 by value, for programs: the pair list is an array of the caller's, so that none needs a proof by hand.
+#![tactic(auto)]
+
 ghost use Rattle.std.specs.Prelude.{◌≡◌, ◌++◌, ◌≤◌, length, take, drop, replicate};
 ghost use Rattle.passes.specs.Checks.{frame};
 ghost use Rattle.matching_step.specs.Step.{matched_floats, no_pair};
@@ -7,7 +9,7 @@ ghost use Rattle.tracker.specs.Calls.{match_answer, match_pairs};
 use tracker::{Answer, Pair, Table};
 
 // What step 2 answers, and the pair list.
-#[derive(Drop)]
+#[derive(Clone, Copy)]
 pub struct Listed {
     pub pairs: [Pair; 40],
     pub answer: Answer,

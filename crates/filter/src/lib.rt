@@ -1,4 +1,6 @@
 // The optimized filter of filter/optimized.rs, on a record's block of the lent storage: docs/RULES.md, rules 4 and 50 to 55.
+#![tactic(auto)]
+
 ghost use Rattle.std.specs.Prelude.{◌≡◌, ◌*◌, ◌<◌, ◌≤◌, length};
 ghost use Rattle.filter.specs.Settings.{defaults};
 ghost use Rattle.filter.specs.Coordinate.{started, predicted, updated};
@@ -6,7 +8,7 @@ ghost use Rattle.filter.specs.Mask.{some_at_most, mask_exists, observed};
 ghost use Rattle.filter.specs.Block.{coordinate_at, with_coordinate, turn, predict_of, made_block, predicted_block, updated_block};
 
 // The five filter settings. Each may be any float.
-#[derive(Drop)]
+#[derive(Clone, Copy)]
 pub struct FilterSettings {
     pub r: f64,
     pub q: f64,
@@ -40,7 +42,7 @@ impl FilterSettings {
 }
 
 // The numbers kept of one coordinate: the filter's five, and the shown velocity.
-#[derive(Drop)]
+#[derive(Clone, Copy)]
 pub struct Coordinate {
     pub x: f64,
     pub velocity: f64,

@@ -9,6 +9,7 @@ use Rattle.laws.specs.Float64.{finite}
 
 true_of : (b : Bool) → T b → b ≡ true
 true_of true t = refl
+true_of false t = elim t [ ]
 
 pub eq_self : (x : Float) → eq x x ≡ not (is_nan x)
 unfolding eq is_nan

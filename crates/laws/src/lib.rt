@@ -1,4 +1,6 @@
 // Leaves that several modules call: see docs/RULES.md, rule 2.
+#![tactic(auto)]
+
 ghost use Rattle.std.specs.Prelude.{◌≡◌, ◌&&◌, ◌≤◌, length, take};
 ghost use Rattle.laws.specs.Float64.{finite};
 ghost use Rattle.laws.specs.Lists.{holds};

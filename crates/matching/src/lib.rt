@@ -1,18 +1,20 @@
 // Greedy matching of matching.rs on a lent matrix: docs/RULES.md, rules 40 to 44.
+#![tactic(auto)]
+
 ghost use Rattle.std.specs.Prelude.{◌≡◌, ◌*◌, ◌≤◌, length, take};
 ghost use Rattle.matching.specs.Greedy.{smaller, next_pick, picks};
 ghost use Rattle.matching.specs.Lent.{counts_below, lent, picks_of};
 ghost use Rattle.matching.specs.Unmatched.{unmatched, numbers_of};
 
 // The place of an entry, or none.
-#[derive(Drop)]
+#[derive(Clone, Copy)]
 pub enum Place {
     At(usize, usize),
     Nothing,
 }
 
 // Picks in order: their rows and columns, 0 behind the last.
-#[derive(Drop)]
+#[derive(Clone, Copy)]
 pub struct Picks {
     pub rows: [usize; 32],
     pub cols: [usize; 32],
@@ -20,7 +22,7 @@ pub struct Picks {
 }
 
 // Numbers in order, 0 behind the last.
-#[derive(Drop)]
+#[derive(Clone, Copy)]
 pub struct Numbers {
     pub at: [usize; 64],
     pub count: usize,

@@ -1,4 +1,6 @@
 // Step 2: match, hit, open: docs/RULES.md, rules 40 to 48. It decides by crate passes and then writes.
+#![tactic(auto)]
+
 pub mod changing;
 pub mod listing;
 pub mod stepping;
@@ -9,7 +11,7 @@ use parts::TrackedObject;
 use table::{Counts, Table};
 
 // Both passes' picks, and the detections to open.
-#[derive(Drop)]
+#[derive(Clone, Copy)]
 pub struct Decided {
     pub first: Picks,
     pub second: Picks,
@@ -17,14 +19,14 @@ pub struct Decided {
 }
 
 // The records and the counts as hits and openings leave them.
-#[derive(Drop)]
+#[derive(Clone, Copy)]
 pub struct Stepped {
     pub records: [TrackedObject; 64],
     pub counts: Counts,
 }
 
 // What step 2 answers, its pairs by value: those up to the count, and nothing behind.
-#[derive(Drop)]
+#[derive(Clone, Copy)]
 pub struct Matched {
     pub pairs: [Pair; 32],
     pub count: usize,

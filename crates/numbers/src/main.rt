@@ -1,4 +1,5 @@
 // Rule 80: the unmarked numbers, run. Each line says what was run and what came out; the file stdout has what the page says.
+#![tactic(auto)]
 ghost use Rattle.std.specs.Prelude.{◌≡◌, ◌≤◌};
 ghost use Rattle.std.specs.Int.Signed.{mag};
 

@@ -1,9 +1,11 @@
 // Rule 47: the pair list, which the host lends.
+#![tactic(auto)]
+
 ghost use Rattle.std.specs.Prelude.{◌≡◌, ◌++◌, ◌<◌, ◌≤◌, length, get_or, set, take, drop};
 ghost use Rattle.pairs.specs.Blank.{blank};
 
 // A hit: the detection's number, the record's global ID, the pass, 1 or 2, and the distance.
-#[derive(Drop)]
+#[derive(Clone, Copy)]
 pub struct Pair {
     pub detection: usize,
     pub global_id: u32,

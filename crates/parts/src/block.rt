@@ -6,7 +6,7 @@ ghost use Rattle.parts.specs.Layout.{layout_of};
 use crate::TrackerConfig;
 
 // A detection's coordinates, the floats of a stored one, where the last detection and the history start, and the block's size.
-#[derive(Drop)]
+#[derive(Clone, Copy)]
 pub struct Layout {
     pub coords: usize,
     pub width: usize,

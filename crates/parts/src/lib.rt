@@ -1,4 +1,6 @@
 // The parts of the object record of tracked_object.rs: its types, the layout of its block, its counters, its points and its history: docs/RULES.md, rules 4, 32, 45, 46, 61 and 62.
+#![tactic(auto)]
+
 pub mod block;
 pub mod counters;
 pub mod past;
@@ -7,7 +9,7 @@ pub mod points;
 use filter::FilterSettings;
 
 // The settings of a tracker. A host may pass any number of its type in any field.
-#[derive(Drop)]
+#[derive(Clone, Copy)]
 pub struct TrackerConfig {
     pub points: usize,
     pub dims: usize,
@@ -25,35 +27,35 @@ pub struct TrackerConfig {
 }
 
 // The ReID counter, and its maximum: absent, or a number.
-#[derive(Drop)]
+#[derive(Clone, Copy)]
 pub enum ReidCounter {
     Absent,
     Present(i32),
 }
 
 // The permanent ID: none yet, or the number.
-#[derive(Drop)]
+#[derive(Clone, Copy)]
 pub enum PermanentId {
     Unissued,
     Issued(u32),
 }
 
 // The last distance: none before the first hit.
-#[derive(Drop)]
+#[derive(Clone, Copy)]
 pub enum LastDistance {
     Never,
     Distance(f64),
 }
 
 // What a record's history keeps of a past detection beside its floats: its age, -1 where it has none, and whether it has scores.
-#[derive(Drop)]
+#[derive(Clone, Copy)]
 pub struct PastDetection {
     pub age: i32,
     pub has_scores: bool,
 }
 
 // Who a record is: given at opening, and never changed.
-#[derive(Drop)]
+#[derive(Clone, Copy)]
 pub struct Origin {
     pub global_id: u32,
     pub initializing_id: u32,
@@ -61,7 +63,7 @@ pub struct Origin {
 }
 
 // How a record fares: its counters, whether it is initializing, and its permanent ID.
-#[derive(Drop)]
+#[derive(Clone, Copy)]
 pub struct Life {
     pub age: u32,
     pub hit_counter: i32,
@@ -71,14 +73,14 @@ pub struct Life {
 }
 
 // The last detection, beside its floats.
-#[derive(Drop)]
+#[derive(Clone, Copy)]
 pub struct Last {
     pub distance: LastDistance,
     pub has_scores: bool,
 }
 
 // A record of the table. Its floats are a block of the lent storage.
-#[derive(Drop)]
+#[derive(Clone, Copy)]
 pub struct TrackedObject {
     pub past: [PastDetection; 8],
     pub past_count: usize,
@@ -90,7 +92,7 @@ pub struct TrackedObject {
 }
 
 // A record after a hit or an opening, and whether it took the next permanent ID.
-#[derive(Drop)]
+#[derive(Clone, Copy)]
 pub struct Changed {
     pub object: TrackedObject,
     pub issued: bool,

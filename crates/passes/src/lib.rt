@@ -1,4 +1,6 @@
 // What step 2 decides before it writes: both passes, who is left over, the lists for step 3, and its refusals. docs/RULES.md, rules 11, 40, 43, 44 and 48.
+#![tactic(auto)]
+
 pub mod checks;
 pub mod lists;
 
@@ -11,7 +13,7 @@ ghost use Rattle.passes.specs.Passes.{numbers, first_pass, second_pass, rows_pic
 use matching::{Numbers, Picks};
 
 // The lengths of what the host lends: points, scores, has-scores bytes, distances, pair places.
-#[derive(Drop)]
+#[derive(Clone, Copy)]
 pub struct Lengths {
     pub points: usize,
     pub scores: usize,

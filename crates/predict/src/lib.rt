@@ -1,4 +1,6 @@
 // Step 1: drop, sort out, predict: docs/RULES.md, rules 30 to 33. A core on a table that passed its checks, with its floats.
+#![tactic(auto)]
+
 ghost use Rattle.std.specs.Prelude.{◌≡◌, ◌≤◌, ◌*◌, length};
 ghost use Rattle.parts.specs.Layout.{block_size};
 ghost use Rattle.parts.specs.Ranges.{Sizes};
@@ -10,7 +12,7 @@ use parts::{ReidCounter, TrackedObject, TrackerConfig, block, past};
 use table::{Counts, Lists, Phase, Table, making};
 
 // The three lists of step 1.
-#[derive(Drop)]
+#[derive(Clone, Copy)]
 pub enum Sort {
     Alive,
     Initializing,
@@ -18,7 +20,7 @@ pub enum Sort {
 }
 
 // Records and how many.
-#[derive(Drop)]
+#[derive(Clone, Copy)]
 pub struct Kept {
     pub records: [TrackedObject; 64],
     pub count: usize,

@@ -1,4 +1,5 @@
 // The main job: a raceway of made-up fish, frame by frame through the public calls, in the order in which a host makes them.
+#![tactic(auto)]
 mod measuring;
 mod story;
 mod telling;

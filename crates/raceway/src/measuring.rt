@@ -4,7 +4,7 @@ ghost use Rattle.std.specs.Prelude.{◌≤◌, ◌≡◌, length};
 use table::Lists;
 
 // A matrix, row by row: its first entries, up to the count.
-#[derive(Drop)]
+#[derive(Clone, Copy)]
 pub(crate) struct Matrix {
     pub(crate) entries: [f64; 64],
     pub(crate) count: usize,

@@ -1,14 +1,14 @@
 // The made-up fish: four swim downstream, each in its lane at its own speed, and the camera does not see each of them in every frame.
 
 // What the camera sees in a frame: how many fish, and where, two coordinates each.
-#[derive(Drop)]
+#[derive(Clone, Copy)]
 pub(crate) struct Seen {
     pub(crate) points: [f64; 16],
     pub(crate) count: usize,
 }
 
 // A fish swims from frame first on; it is hidden from frame hidden to before frame back.
-#[derive(Drop)]
+#[derive(Clone, Copy)]
 struct Fish {
     lane: f64,
     speed: f64,

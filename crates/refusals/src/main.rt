@@ -1,4 +1,5 @@
 // Bad input to the public calls: each refusal alone and in pairs, so that the first in order answers, with the table and the storage compared afterwards.
+#![tactic(auto)]
 mod same;
 mod step_three;
 mod step_two;

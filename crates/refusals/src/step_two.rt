@@ -6,7 +6,7 @@ use pairs::Pair;
 use table::{Phase, Table};
 
 // A table in step 2, and how it is called.
-#[derive(Drop)]
+#[derive(Clone, Copy)]
 struct Case {
     table: Table,
     floats: usize,

@@ -1,4 +1,6 @@
 // Step 3: ReID and the active list: docs/RULES.md, rules 60 to 65. A core on a table that passed its checks, with its floats.
+#![tactic(auto)]
+
 pub mod active;
 pub mod checks;
 pub mod merging;
@@ -12,7 +14,7 @@ use parts::TrackedObject;
 use table::{Counts, Phase, Table, making};
 
 // Records and how many.
-#[derive(Drop)]
+#[derive(Clone, Copy)]
 pub struct Staying {
     pub records: [TrackedObject; 64],
     pub count: usize,

@@ -1,4 +1,6 @@
 // The table of records and the counts kept beside it, the refusal numbers, and when a table is whole: docs/RULES.md, rules 3, 10 to 14, 20 and 21.
+#![tactic(auto)]
+
 pub mod listed;
 pub mod making;
 pub mod ranges;
@@ -9,7 +11,7 @@ use matching::Numbers;
 use parts::{TrackedObject, TrackerConfig};
 
 // Which step is next.
-#[derive(Drop)]
+#[derive(Clone, Copy)]
 pub enum Phase {
     Predict,
     Match,
@@ -17,7 +19,7 @@ pub enum Phase {
 }
 
 // How many records are in the table, frames begun and records opened; and the next permanent, global and initializing ID.
-#[derive(Drop)]
+#[derive(Clone, Copy)]
 pub struct Counts {
     pub records: usize,
     pub frames: u32,
@@ -28,14 +30,14 @@ pub struct Counts {
 }
 
 // Records hit in pass 2, in hit order, 0 behind the last: at most one for each of 32 detections.
-#[derive(Drop)]
+#[derive(Clone, Copy)]
 pub struct Candidates {
     pub at: [usize; 32],
     pub count: usize,
 }
 
 // The lists kept between steps, of places in the table: from step 1 the alive, the initializing and the dead; from step 2 the old ones and the candidates.
-#[derive(Drop)]
+#[derive(Clone, Copy)]
 pub struct Lists {
     pub alive: Numbers,
     pub initializing: Numbers,
@@ -44,7 +46,7 @@ pub struct Lists {
     pub candidates: Candidates,
 }
 
-#[derive(Drop)]
+#[derive(Clone, Copy)]
 pub struct Table {
     pub records: [TrackedObject; 64],
     pub config: TrackerConfig,
@@ -54,7 +56,7 @@ pub struct Table {
 }
 
 // What a call answers: the refusal's number or 0, how many entries of an output it wrote, and the table.
-#[derive(Drop)]
+#[derive(Clone, Copy)]
 pub struct Answer {
     pub refusal: u32,
     pub count: usize,

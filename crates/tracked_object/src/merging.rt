@@ -7,7 +7,7 @@ ghost use Rattle.tracked_object.specs.Object.{history, takes, conditionally_adde
 use parts::{PastDetection, TrackedObject, TrackerConfig, block, counters, past};
 
 // The marks of a history, and how many.
-#[derive(Drop)]
+#[derive(Clone, Copy)]
 pub struct Marks {
     pub past: [PastDetection; 8],
     pub count: usize,

@@ -1,4 +1,6 @@
 // The public calls of the tracker, the only crate that a host names: docs/RULES.md. None has a requires.
+#![tactic(auto)]
+
 ghost use Rattle.std.specs.Prelude.{◌≡◌, ◌≤◌, length};
 ghost use Rattle.table.specs.Making.{made};
 ghost use Rattle.passes.specs.Checks.{frame};
@@ -11,7 +13,7 @@ pub use parts::{ReidCounter, TrackerConfig};
 pub use table::{Answer, Table};
 
 // A count, or the refusal and 0.
-#[derive(Drop)]
+#[derive(Clone, Copy)]
 pub struct Count {
     pub refusal: u32,
     pub count: usize,

@@ -114,7 +114,7 @@ pub(crate) fn hold_table(
 }
 
 // What tells where a record's floats lie.
-#[derive(Drop)]
+#[derive(Clone, Copy)]
 struct Shape {
     points: usize,
     coords: usize,

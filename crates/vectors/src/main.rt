@@ -1,4 +1,5 @@
 // The oracle's answers held against the public calls: reads traces (FORMAT.md), runs each through the calls and prints a line for it, with the first difference.
+#![tactic(auto)]
 mod frames;
 mod holding;
 mod pace;

@@ -15,7 +15,7 @@ const DISTANCES: usize = 96;
 const LOOKS: usize = 2144;
 
 // A frame's numbers: the period, and how many there are of each list that is lent.
-#[derive(Drop)]
+#[derive(Clone, Copy)]
 struct Head {
     period: usize,
     detections: usize,
