@@ -10,14 +10,14 @@ use Rattle.filter.proofs.diagonal.Tie as tie
 abbrev by : Bool → Bool → Float
 by mask above = cond (mask && not above) f0 f1
 
+returns-then-score-threshold : tie.Need-returns-then-score-threshold
+returns-then-score-threshold c = sym (ap₂ by c.before.if-mask.true c.if-score-threshold.true)
+
+returns-then-mask : tie.Need-returns-then-mask
+returns-then-mask c = sym (ap₂ by c.before.if-mask.true c.if-score-threshold.false)
+
 returns : tie.Need-returns
-returns c = sym (ap₂ by c.before.if1.true c.if2.true)
+returns c = rw c.if-mask.false
 
-returns-2 : tie.Need-returns-2
-returns-2 c = sym (ap₂ by c.before.if1.true c.if2.false)
-
-returns-3 : tie.Need-returns-3
-returns-3 c = rw c.if1.false
-
-pub diagonal-spec : {M : Type 1} → statement M
-diagonal-spec = tie.close (tie.spec returns returns-2 returns-3)
+pub diagonal_spec : {M : Type 1} → statement M
+diagonal_spec = tie.close (tie.spec returns-then-score-threshold returns-then-mask returns)

@@ -4,16 +4,16 @@ use Rattle.filter.specs.Mask.{mask_exists}
 use Rattle.filter.proofs.needs_mask.Statement.{statement}
 use Rattle.filter.proofs.needs_mask.Tie as tie
 
-some-at-most-requires : tie.Need-some-at-most-requires
-some-at-most-requires c κs = search rules
+some_at_most-requires : tie.Need-some_at_most-requires
+some_at_most-requires c κs = search rules
+
+returns-then-has_scores : tie.Need-returns-then-has_scores
+unfolding mask_exists
+returns-then-has_scores c = rw c.before.if-has_scores.true c.some_at_most.ensures
 
 returns : tie.Need-returns
 unfolding mask_exists
-returns c = rw c.before.if1.true c.some-at-most.ensures
+returns c = rw c.if-has_scores.false
 
-returns-2 : tie.Need-returns-2
-unfolding mask_exists
-returns-2 c = rw c.if1.false
-
-pub needs-mask-spec : {M : Type 1} → statement M
-needs-mask-spec = tie.close (tie.spec some-at-most-requires returns returns-2)
+pub needs_mask_spec : {M : Type 1} → statement M
+needs_mask_spec = tie.close (tie.spec some_at_most-requires returns-then-has_scores returns)

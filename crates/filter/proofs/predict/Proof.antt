@@ -10,45 +10,45 @@ use Rattle.filter.specs.Block.{turn, predict_of}
 use Rattle.filter.proofs.predict.Statement.{statement}
 use Rattle.filter.proofs.predict.Tie as tie
 
-abbrev invariant-loop : tie.invariant-loop
-invariant-loop block₀ n j₀ block j =
+abbrev invariant-loop-j : tie.invariant-loop-j
+invariant-loop-j block₀ n j₀ block j =
     (j ≤ n) × (length block ≡ length block₀) × (block ≡ turns (turn predict_of n) j block₀)
 
-abbrev decreases-loop : tie.decreases-loop
-decreases-loop block₀ n j₀ block j = n - j
+abbrev decreases-loop-j : tie.decreases-loop-j
+decreases-loop-j block₀ n j₀ block j = n - j
 
-loop-holds : tie.Need-loop-init invariant-loop decreases-loop
+loop-j-init : tie.Need-loop-j-init invariant-loop-j decreases-loop-j
 unfolding turns
-loop-holds c = (search rules, refl, refl)
+loop-j-init c = (search rules, refl, refl)
 
-predict-at-requires : tie.Need-predict-at-requires invariant-loop decreases-loop
-predict-at-requires c κs = search rules
+predict_at-requires : tie.Need-predict_at-requires invariant-loop-j decreases-loop-j
+predict_at-requires c κs = search rules
 
-add-j : tie.Need-overflow-add-j invariant-loop decreases-loop
-add-j c = search rules
+overflow_add-j : tie.Need-overflow_add-j invariant-loop-j decreases-loop-j
+overflow_add-j c = search rules
 
-loop-less : tie.Need-loop-smaller invariant-loop decreases-loop
-loop-less c = search rules
+loop-j-smaller : tie.Need-loop-j-smaller invariant-loop-j decreases-loop-j
+loop-j-smaller c = search rules
 
-loop-again : tie.Need-loop-preserved invariant-loop decreases-loop
-loop-again c =
+loop-j-preserved : tie.Need-loop-j-preserved invariant-loop-j decreases-loop-j
+loop-j-preserved c =
     let s = c.before.before.before.before.before.before.before in
-    let loop = c.before.before.before.before.before.loop in
-    let call = c.before.before.predict-at in (
+    let loop = c.before.before.before.before.before.loop-j in
+    let call = c.before.before.predict_at in (
       search rules,
       call.auto.0 ∙ loop.invariant.1,
       turns_next (turn predict_of s.args.n) loop.j s.args.block.now call.ensures loop.invariant.2,
     )
 
-same_length : tie.Need-same-length invariant-loop decreases-loop
-same_length c = search rules
+shape_of-block : tie.Need-shape_of-block invariant-loop-j decreases-loop-j
+shape_of-block c = search rules
 
-returns : tie.Need-returns invariant-loop decreases-loop
+returns : tie.Need-returns invariant-loop-j decreases-loop-j
 returns c =
-    let e : c.before.loop.j ≡ c.before.before.before.args.n = omega arith in
-    rw e at c.before.loop.invariant.2
+    let e : c.before.loop-j.j ≡ c.before.before.before.args.n = omega arith in
+    rw e at c.before.loop-j.invariant.2
 
-pub predict-spec : {M : Type 1} → statement M
-predict-spec =
+pub predict_spec : {M : Type 1} → statement M
+predict_spec =
     tie.close
-    (tie.spec invariant-loop decreases-loop loop-holds predict-at-requires add-j loop-less loop-again same_length returns)
+    (tie.spec invariant-loop-j decreases-loop-j loop-j-init predict_at-requires overflow_add-j loop-j-smaller loop-j-preserved shape_of-block returns)

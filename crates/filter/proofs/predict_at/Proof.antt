@@ -3,24 +3,24 @@ use borrow.Author.Rules.{rules}
 use Rattle.filter.proofs.predict_at.Statement.{statement}
 use Rattle.filter.proofs.predict_at.Tie as tie
 
-read-coordinate-requires : tie.Need-read-coordinate-requires
-read-coordinate-requires c κs = search rules
+read_coordinate-c-requires : tie.Need-read_coordinate-c-requires
+read_coordinate-c-requires c κs = search rules
 
-predict-coordinate-requires : tie.Need-predict-coordinate-requires
-predict-coordinate-requires c κs = search rules
+predict_coordinate-requires : tie.Need-predict_coordinate-requires
+predict_coordinate-requires c κs = search rules
 
-put-coordinate-requires : tie.Need-put-coordinate-requires
-put-coordinate-requires c κs = search rules
+put_coordinate-requires : tie.Need-put_coordinate-requires
+put_coordinate-requires c κs = search rules
 
-same_length : tie.Need-same-length
-same_length c = search rules
+shape_of-block : tie.Need-shape_of-block
+shape_of-block c = search rules
 
 returns : tie.Need-returns
 returns c =
     rw
-    (c.before.before.put-coordinate.ensures, c.before.before.before.predict-coordinate.ensures, c.before.before.before.before.before.read-coordinate.ensures)
+    (c.before.before.put_coordinate.ensures, c.before.before.before.predict_coordinate.ensures, c.before.before.before.before.before.read_coordinate-c.ensures)
 
-pub predict-at-spec : {M : Type 1} → statement M
-predict-at-spec =
+pub predict_at_spec : {M : Type 1} → statement M
+predict_at_spec =
     tie.close
-    (tie.spec read-coordinate-requires predict-coordinate-requires put-coordinate-requires same_length returns)
+    (tie.spec read_coordinate-c-requires predict_coordinate-requires put_coordinate-requires shape_of-block returns)

@@ -6,5 +6,5 @@ use Rattle.filter.proofs.predict_coordinate.Tie as tie
 returns : tie.Need-returns
 returns c = refl
 
-pub predict-coordinate-spec : {M : Type 1} → statement M
-predict-coordinate-spec = tie.close (tie.spec returns)
+pub predict_coordinate_spec : {M : Type 1} → statement M
+predict_coordinate_spec = tie.close (tie.spec returns)

@@ -11,47 +11,47 @@ use Rattle.filter.specs.Mask.{some_at_most}
 use Rattle.filter.proofs.some_at_most.Statement.{statement}
 use Rattle.filter.proofs.some_at_most.Tie as tie
 
-abbrev invariant-loop : tie.invariant-loop
-invariant-loop threshold scores i₀ i = (i ≤ length scores) × (some_at_most threshold scores ≡ some_at_most threshold (drop i scores))
+abbrev invariant-loop-i : tie.invariant-loop-i
+invariant-loop-i threshold scores i₀ i = (i ≤ length scores) × (some_at_most threshold scores ≡ some_at_most threshold (drop i scores))
 
-abbrev decreases-loop : tie.decreases-loop
-decreases-loop threshold scores i₀ i = length scores - i
+abbrev decreases-loop-i : tie.decreases-loop-i
+decreases-loop-i threshold scores i₀ i = length scores - i
 
-loop-holds : tie.Need-loop-init invariant-loop decreases-loop
-loop-holds c = (search rules, refl)
+loop-i-init : tie.Need-loop-i-init invariant-loop-i decreases-loop-i
+loop-i-init c = (search rules, refl)
 
-mul-if1 : tie.Need-overflow-mul-if1 invariant-loop decreases-loop
-mul-if1 c = search rules
+offset_bounds-scores-i : tie.Need-offset_bounds-scores-i invariant-loop-i decreases-loop-i
+offset_bounds-scores-i c = search rules
 
-shared-slice-read-if1 : tie.Need-shared-slice-read-if1 invariant-loop decreases-loop
-shared-slice-read-if1 c = search rules
+bounds-scores-i : tie.Need-bounds-scores-i invariant-loop-i decreases-loop-i
+bounds-scores-i c = search rules
 
-returns : tie.Need-returns invariant-loop decreases-loop
-returns c =
+returns-then-scores-i : tie.Need-returns-then-scores-i invariant-loop-i decreases-loop-i
+returns-then-scores-i c =
     let s = c.before.before.before.before in
-    let loop = c.before.before.before.loop in
-    sym (loop.invariant.1 ∙ any_here (λ x. le x s.args.threshold) s.args.scores.now loop.i nan (omega arith) c.if1.true)
+    let loop = c.before.before.before.loop-i in
+    sym (loop.invariant.1 ∙ any_here (λ x. le x s.args.threshold) s.args.scores.now loop.i nan (omega arith) c.if-scores-i.true)
 
-add-i : tie.Need-overflow-add-i invariant-loop decreases-loop
-add-i c = search rules
+overflow_add-i : tie.Need-overflow_add-i invariant-loop-i decreases-loop-i
+overflow_add-i c = search rules
 
-loop-less : tie.Need-loop-smaller invariant-loop decreases-loop
-loop-less c = search rules
+loop-i-smaller : tie.Need-loop-i-smaller invariant-loop-i decreases-loop-i
+loop-i-smaller c = search rules
 
-loop-again : tie.Need-loop-preserved invariant-loop decreases-loop
-loop-again c =
+loop-i-preserved : tie.Need-loop-i-preserved invariant-loop-i decreases-loop-i
+loop-i-preserved c =
     let s = c.before.before.before.before in
-    let loop = c.before.before.before.loop in (
+    let loop = c.before.before.before.loop-i in (
       omega arith,
-      rw add-one (loop.invariant.1 ∙ any_on (λ x. le x s.args.threshold) s.args.scores.now loop.i nan (omega arith) c.if1.false),
+      rw add-one (loop.invariant.1 ∙ any_on (λ x. le x s.args.threshold) s.args.scores.now loop.i nan (omega arith) c.if-scores-i.false),
     )
 
-returns-2 : tie.Need-returns-2 invariant-loop decreases-loop
-returns-2 c =
+returns : tie.Need-returns invariant-loop-i decreases-loop-i
+returns c =
     let s = c.before.before in
-    let loop = c.before.loop in
+    let loop = c.before.loop-i in
     sym (loop.invariant.1 ∙ any_end (λ x. le x s.args.threshold) s.args.scores.now loop.i (omega arith))
 
-pub some-at-most-spec : {M : Type 1} → statement M
-some-at-most-spec =
-    tie.close (tie.spec invariant-loop decreases-loop loop-holds mul-if1 shared-slice-read-if1 returns add-i loop-less loop-again returns-2)
+pub some_at_most_spec : {M : Type 1} → statement M
+some_at_most_spec =
+    tie.close (tie.spec invariant-loop-i decreases-loop-i loop-i-init offset_bounds-scores-i bounds-scores-i returns-then-scores-i overflow_add-i loop-i-smaller loop-i-preserved returns)

@@ -3,18 +3,18 @@ use borrow.Author.Rules.{rules}
 use Rattle.filter.proofs.start_at.Statement.{statement}
 use Rattle.filter.proofs.start_at.Tie as tie
 
-start-coordinate-requires : tie.Need-start-coordinate-requires
-start-coordinate-requires c κs = search rules
+start_coordinate-requires : tie.Need-start_coordinate-requires
+start_coordinate-requires c κs = search rules
 
-put-coordinate-requires : tie.Need-put-coordinate-requires
-put-coordinate-requires c κs = search rules
+put_coordinate-requires : tie.Need-put_coordinate-requires
+put_coordinate-requires c κs = search rules
 
-same_length : tie.Need-same-length
-same_length c = search rules
+shape_of-block : tie.Need-shape_of-block
+shape_of-block c = search rules
 
 returns : tie.Need-returns
-returns c = rw (c.before.before.put-coordinate.ensures, c.before.before.before.start-coordinate.ensures)
+returns c = rw (c.before.before.put_coordinate.ensures, c.before.before.before.start_coordinate.ensures)
 
-pub start-at-spec : {M : Type 1} → statement M
-start-at-spec =
-    tie.close (tie.spec start-coordinate-requires put-coordinate-requires same_length returns)
+pub start_at_spec : {M : Type 1} → statement M
+start_at_spec =
+    tie.close (tie.spec start_coordinate-requires put_coordinate-requires shape_of-block returns)

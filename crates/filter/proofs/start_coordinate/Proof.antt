@@ -6,5 +6,5 @@ use Rattle.filter.proofs.start_coordinate.Tie as tie
 returns : tie.Need-returns
 returns c = refl
 
-pub start-coordinate-spec : {M : Type 1} → statement M
-start-coordinate-spec = tie.close (tie.spec returns)
+pub start_coordinate_spec : {M : Type 1} → statement M
+start_coordinate_spec = tie.close (tie.spec returns)

@@ -12,99 +12,99 @@ use Rattle.filter.specs.Block.{turn, each, update_of}
 use Rattle.filter.proofs.update.Statement.{statement}
 use Rattle.filter.proofs.update.Tie as tie
 
-abbrev invariant-loop : tie.invariant-loop
-invariant-loop block₀ n f k points has-scores threshold scores mask j₀ block j =
+abbrev invariant-loop-j : tie.invariant-loop-j
+invariant-loop-j block₀ n f k points has-scores threshold scores mask j₀ block j =
     (j ≤ n) × (length block ≡ length block₀) × (block ≡ turns (turn (update_of f k points mask threshold scores) n) j block₀)
 
-abbrev decreases-loop : tie.decreases-loop
-decreases-loop block₀ n f k points has-scores threshold scores mask j₀ block j = n - j
+abbrev decreases-loop-j : tie.decreases-loop-j
+decreases-loop-j block₀ n f k points has-scores threshold scores mask j₀ block j = n - j
 
-needs-mask-requires : tie.Need-needs-mask-requires invariant-loop decreases-loop
-needs-mask-requires c κs = search rules
+needs_mask-mask-requires : tie.Need-needs_mask-mask-requires invariant-loop-j decreases-loop-j
+needs_mask-mask-requires c κs = search rules
 
-loop-holds : tie.Need-loop-init invariant-loop decreases-loop
+loop-j-init : tie.Need-loop-j-init invariant-loop-j decreases-loop-j
 unfolding turns
-loop-holds c = (search rules, refl, refl)
+loop-j-init c = (search rules, refl, refl)
 
-div-diagonal : tie.Need-nonzero-div-diagonal invariant-loop decreases-loop
-div-diagonal c = search rules
+nonzero_div-j : tie.Need-nonzero_div-j invariant-loop-j decreases-loop-j
+nonzero_div-j c = search rules
 
 -- the score of coordinate j's point is there
-inside : (c : tie.In-loop invariant-loop decreases-loop)
-    → c.before.loop.j / c.before.before.before.before.before.before.args.k < length c.before.before.before.before.before.before.args.scores.now
+inside : (c : tie.In-loop-j invariant-loop-j decreases-loop-j)
+    → c.before.loop-j.j / c.before.before.before.before.before.before.args.k < length c.before.before.before.before.before.before.args.scores.now
 inside c =
     let s = c.before.before.before.before.before.before in
-    (div-lt_iff_lt-mul {k = s.args.k} {x = c.before.loop.j} {y = length s.args.scores.now} s.requires.0).1 (omega arith)
+    (div-lt_iff_lt-mul {k = s.args.k} {x = c.before.loop-j.j} {y = length s.args.scores.now} s.requires.0).1 (omega arith)
 
-mul-diagonal : tie.Need-overflow-mul-diagonal invariant-loop decreases-loop
-mul-diagonal c = scaled_Fits _ _ 8 (inside c) c.before.before.before.before.before.before.well-formed.1.1.1.1.1.1.1.0.1
+offset_bounds-scores-j : tie.Need-offset_bounds-scores-j invariant-loop-j decreases-loop-j
+offset_bounds-scores-j c = scaled_Fits _ _ 8 (inside c) c.before.before.before.before.before.before.well_formed.1.1.1.1.1.1.1.0.1
 
-shared-slice-read-diagonal : tie.Need-shared-slice-read-diagonal invariant-loop decreases-loop
-shared-slice-read-diagonal c = inside c.before
+bounds-scores-j : tie.Need-bounds-scores-j invariant-loop-j decreases-loop-j
+bounds-scores-j c = inside c.before
 
-diagonal-requires : tie.Need-diagonal-requires invariant-loop decreases-loop
-diagonal-requires c κs = search rules
+diagonal-d-requires : tie.Need-diagonal-d-requires invariant-loop-j decreases-loop-j
+diagonal-d-requires c κs = search rules
 
-mul-update-at : tie.Need-overflow-mul-update-at invariant-loop decreases-loop
-mul-update-at c = search rules
+offset_bounds-points-j : tie.Need-offset_bounds-points-j invariant-loop-j decreases-loop-j
+offset_bounds-points-j c = search rules
 
-shared-slice-read-update-at : tie.Need-shared-slice-read-update-at invariant-loop decreases-loop
-shared-slice-read-update-at c = search rules
+bounds-points-j : tie.Need-bounds-points-j invariant-loop-j decreases-loop-j
+bounds-points-j c = search rules
 
-update-at-requires : tie.Need-update-at-requires invariant-loop decreases-loop
-update-at-requires c κs = search rules
+update_at-requires : tie.Need-update_at-requires invariant-loop-j decreases-loop-j
+update_at-requires c κs = search rules
 
-add-j : tie.Need-overflow-add-j invariant-loop decreases-loop
-add-j c = search rules
+overflow_add-j : tie.Need-overflow_add-j invariant-loop-j decreases-loop-j
+overflow_add-j c = search rules
 
-loop-less : tie.Need-loop-smaller invariant-loop decreases-loop
-loop-less c = search rules
+loop-j-smaller : tie.Need-loop-j-smaller invariant-loop-j decreases-loop-j
+loop-j-smaller c = search rules
 
-loop-again : tie.Need-loop-preserved invariant-loop decreases-loop
-loop-again c =
+loop-j-preserved : tie.Need-loop-j-preserved invariant-loop-j decreases-loop-j
+loop-j-preserved c =
     let s = c.before.before.before.before.before.before.before.before.before.before.before.before.before in
-    let mask = c.before.before.before.before.before.before.before.before.before.needs-mask.result in
-    let loop = c.before.before.before.before.before.before.before.before.loop in
-    let call = c.before.before.update-at in (
+    let mask = c.before.before.before.before.before.before.before.before.before.needs_mask-mask.result in
+    let loop = c.before.before.before.before.before.before.before.before.loop-j in
+    let call = c.before.before.update_at in (
       search rules,
       call.auto.0 ∙ loop.invariant.1,
       turns_next
           (turn (update_of s.args.f s.args.k s.args.points.now mask s.args.threshold s.args.scores.now) s.args.n)
           loop.j
           s.args.block.now
-          (rw c.before.before.before.before.before.diagonal.ensures at call.ensures)
+          (rw c.before.before.before.before.before.diagonal-d.ensures at call.ensures)
           loop.invariant.2,
     )
 
-same_length : tie.Need-same-length invariant-loop decreases-loop
-same_length c = search rules
+shape_of-block : tie.Need-shape_of-block invariant-loop-j decreases-loop-j
+shape_of-block c = search rules
 
-returns : tie.Need-returns invariant-loop decreases-loop
+returns : tie.Need-returns invariant-loop-j decreases-loop-j
 returns c =
     let s = c.before.before.before.before.before.before in
-    let e : c.before.loop.j ≡ s.args.n = omega arith in
-    (rw e at c.before.loop.invariant.2)
+    let e : c.before.loop-j.j ≡ s.args.n = omega arith in
+    (rw e at c.before.loop-j.invariant.2)
     ∙ ap
     (λ (mask : Bool). each (update_of s.args.f s.args.k s.args.points.now mask s.args.threshold s.args.scores.now) s.args.n s.args.block.now)
-    c.before.before.needs-mask.ensures
+    c.before.before.needs_mask-mask.ensures
 
-pub update-spec : {M : Type 1} → statement M
-update-spec =
+pub update_spec : {M : Type 1} → statement M
+update_spec =
     tie.close
     (tie.spec
-    invariant-loop
-    decreases-loop
-    needs-mask-requires
-    loop-holds
-    div-diagonal
-    mul-diagonal
-    shared-slice-read-diagonal
-    diagonal-requires
-    mul-update-at
-    shared-slice-read-update-at
-    update-at-requires
-    add-j
-    loop-less
-    loop-again
-    same_length
+    invariant-loop-j
+    decreases-loop-j
+    needs_mask-mask-requires
+    loop-j-init
+    nonzero_div-j
+    offset_bounds-scores-j
+    bounds-scores-j
+    diagonal-d-requires
+    offset_bounds-points-j
+    bounds-points-j
+    update_at-requires
+    overflow_add-j
+    loop-j-smaller
+    loop-j-preserved
+    shape_of-block
     returns)

@@ -3,24 +3,24 @@ use borrow.Author.Rules.{rules}
 use Rattle.filter.proofs.update_at.Statement.{statement}
 use Rattle.filter.proofs.update_at.Tie as tie
 
-read-coordinate-requires : tie.Need-read-coordinate-requires
-read-coordinate-requires c κs = search rules
+read_coordinate-c-requires : tie.Need-read_coordinate-c-requires
+read_coordinate-c-requires c κs = search rules
 
-update-coordinate-requires : tie.Need-update-coordinate-requires
-update-coordinate-requires c κs = search rules
+update_coordinate-requires : tie.Need-update_coordinate-requires
+update_coordinate-requires c κs = search rules
 
-put-coordinate-requires : tie.Need-put-coordinate-requires
-put-coordinate-requires c κs = search rules
+put_coordinate-requires : tie.Need-put_coordinate-requires
+put_coordinate-requires c κs = search rules
 
-same_length : tie.Need-same-length
-same_length c = search rules
+shape_of-block : tie.Need-shape_of-block
+shape_of-block c = search rules
 
 returns : tie.Need-returns
 returns c =
     rw
-    (c.before.before.put-coordinate.ensures, c.before.before.before.update-coordinate.ensures, c.before.before.before.before.before.read-coordinate.ensures)
+    (c.before.before.put_coordinate.ensures, c.before.before.before.update_coordinate.ensures, c.before.before.before.before.before.read_coordinate-c.ensures)
 
-pub update-at-spec : {M : Type 1} → statement M
-update-at-spec =
+pub update_at_spec : {M : Type 1} → statement M
+update_at_spec =
     tie.close
-    (tie.spec read-coordinate-requires update-coordinate-requires put-coordinate-requires same_length returns)
+    (tie.spec read_coordinate-c-requires update_coordinate-requires put_coordinate-requires shape_of-block returns)

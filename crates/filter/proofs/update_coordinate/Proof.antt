@@ -6,5 +6,5 @@ use Rattle.filter.proofs.update_coordinate.Tie as tie
 returns : tie.Need-returns
 returns c = refl
 
-pub update-coordinate-spec : {M : Type 1} → statement M
-update-coordinate-spec = tie.close (tie.spec returns)
+pub update_coordinate_spec : {M : Type 1} → statement M
+update_coordinate_spec = tie.close (tie.spec returns)

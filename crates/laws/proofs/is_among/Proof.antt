@@ -14,57 +14,57 @@ use Rattle.laws.proofs.Search.{any_here, any_on, any_end}
 use Rattle.laws.proofs.is_among.Statement.{statement}
 use Rattle.laws.proofs.is_among.Tie as tie
 
-abbrev invariant-loop : tie.invariant-loop
-invariant-loop numbers n x i₀ i = (i ≤ n) × (holds x (take n numbers) ≡ holds x (drop i (take n numbers)))
+abbrev invariant-loop-i : tie.invariant-loop-i
+invariant-loop-i numbers n x i₀ i = (i ≤ n) × (holds x (take n numbers) ≡ holds x (drop i (take n numbers)))
 
-abbrev decreases-loop : tie.decreases-loop
-decreases-loop numbers n x i₀ i = n - i
+abbrev decreases-loop-i : tie.decreases-loop-i
+decreases-loop-i numbers n x i₀ i = n - i
 
-loop-holds : tie.Need-loop-init invariant-loop decreases-loop
-loop-holds c = (search rules, refl)
+loop-i-init : tie.Need-loop-i-init invariant-loop-i decreases-loop-i
+loop-i-init c = (search rules, refl)
 
 -- what is looked through is n long
-whole : (c : tie.Start invariant-loop decreases-loop) → length (take c.args.n c.args.numbers.now) ≡ c.args.n
+whole : (c : tie.Start invariant-loop-i decreases-loop-i) → length (take c.args.n c.args.numbers.now) ≡ c.args.n
 whole c = length-take-le c.args.n c.args.numbers.now c.requires
 
-mul-if1 : tie.Need-overflow-mul-if1 invariant-loop decreases-loop
-mul-if1 c = search rules
+offset_bounds-numbers-i : tie.Need-offset_bounds-numbers-i invariant-loop-i decreases-loop-i
+offset_bounds-numbers-i c = search rules
 
-shared-slice-read-if1 : tie.Need-shared-slice-read-if1 invariant-loop decreases-loop
-shared-slice-read-if1 c = search rules
+bounds-numbers-i : tie.Need-bounds-numbers-i invariant-loop-i decreases-loop-i
+bounds-numbers-i c = search rules
 
-returns : tie.Need-returns invariant-loop decreases-loop
-returns c =
+returns-then-numbers-i : tie.Need-returns-then-numbers-i invariant-loop-i decreases-loop-i
+returns-then-numbers-i c =
     let s = c.before.before.before.before in
-    let i = c.before.before.before.loop.i in
+    let i = c.before.before.before.loop-i.i in
     sym
-    (c.before.before.before.loop.invariant.1
+    (c.before.before.before.loop-i.invariant.1
     ∙ any_here (λ y. eqb y s.args.x) (take s.args.n s.args.numbers.now) i 0 (omega (arith, whole s))
-    (rw (get_or-take s.args.n s.args.numbers.now i 0 (omega arith)) (eq-eqb _ _ c.if1.true)))
+    (rw (get_or-take s.args.n s.args.numbers.now i 0 (omega arith)) (eq-eqb _ _ c.if-numbers-i.true)))
 
-add-i : tie.Need-overflow-add-i invariant-loop decreases-loop
-add-i c = search rules
+overflow_add-i : tie.Need-overflow_add-i invariant-loop-i decreases-loop-i
+overflow_add-i c = search rules
 
-loop-less : tie.Need-loop-smaller invariant-loop decreases-loop
-loop-less c = search rules
+loop-i-smaller : tie.Need-loop-i-smaller invariant-loop-i decreases-loop-i
+loop-i-smaller c = search rules
 
-loop-again : tie.Need-loop-preserved invariant-loop decreases-loop
-loop-again c =
+loop-i-preserved : tie.Need-loop-i-preserved invariant-loop-i decreases-loop-i
+loop-i-preserved c =
     let s = c.before.before.before.before in
-    let i = c.before.before.before.loop.i in (
+    let i = c.before.before.before.loop-i.i in (
       omega arith,
-      rw add-one (c.before.before.before.loop.invariant.1
+      rw add-one (c.before.before.before.loop-i.invariant.1
           ∙ any_on (λ y. eqb y s.args.x) (take s.args.n s.args.numbers.now) i 0 (omega (arith, whole s))
-          (rw (get_or-take s.args.n s.args.numbers.now i 0 (omega arith)) (ne_eqb _ _ c.if1.false))),
+          (rw (get_or-take s.args.n s.args.numbers.now i 0 (omega arith)) (ne_eqb _ _ c.if-numbers-i.false))),
     )
 
-returns-2 : tie.Need-returns-2 invariant-loop decreases-loop
-returns-2 c =
+returns : tie.Need-returns invariant-loop-i decreases-loop-i
+returns c =
     let s = c.before.before in
     sym
-    (c.before.loop.invariant.1
-    ∙ any_end (λ y. eqb y s.args.x) (take s.args.n s.args.numbers.now) c.before.loop.i (omega (arith, whole s)))
+    (c.before.loop-i.invariant.1
+    ∙ any_end (λ y. eqb y s.args.x) (take s.args.n s.args.numbers.now) c.before.loop-i.i (omega (arith, whole s)))
 
-pub is-among-spec : {M : Type 1} → statement M
-is-among-spec =
-    tie.close (tie.spec invariant-loop decreases-loop loop-holds mul-if1 shared-slice-read-if1 returns add-i loop-less loop-again returns-2)
+pub is_among_spec : {M : Type 1} → statement M
+is_among_spec =
+    tie.close (tie.spec invariant-loop-i decreases-loop-i loop-i-init offset_bounds-numbers-i bounds-numbers-i returns-then-numbers-i overflow_add-i loop-i-smaller loop-i-preserved returns)

@@ -8,5 +8,5 @@ use Rattle.laws.proofs.is_finite.Tie as tie
 returns : tie.Need-returns
 returns c = eq_self (sub binary64 c.args.x c.args.x) ∙ number_of_finite c.args.x
 
-pub is-finite-spec : {M : Type 1} → statement M
-is-finite-spec = tie.close (tie.spec returns)
+pub is_finite_spec : {M : Type 1} → statement M
+is_finite_spec = tie.close (tie.spec returns)

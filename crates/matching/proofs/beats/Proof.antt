@@ -4,19 +4,19 @@ use Rattle.matching.specs.Greedy.{smaller}
 use Rattle.matching.proofs.beats.Statement.{statement}
 use Rattle.matching.proofs.beats.Tie as tie
 
-enum_told : tie.Need-enum-told
-enum_told c = search rules
+enum_told-1 : tie.Need-enum_told-1
+enum_told-1 c = search rules
 
-enum-told-2 : tie.Need-enum-told-2
-enum-told-2 c = search rules
+enum_told-in-Nothing : tie.Need-enum_told-in-Nothing
+enum_told-in-Nothing c = search rules
 
-returns : tie.Need-returns
+returns-in-At : tie.Need-returns-in-At
 unfolding smaller
-returns c = rw c.enum_told.given.1
+returns-in-At c = rw c.enum_told-1.given.1
 
-returns-2 : tie.Need-returns-2
+returns-in-Nothing : tie.Need-returns-in-Nothing
 unfolding smaller
-returns-2 c = rw c.enum-told2.given.1
+returns-in-Nothing c = rw c.enum_told-in-Nothing-1.given.1
 
-pub beats-spec : {M : Type 1} → statement M
-beats-spec = tie.close (tie.spec enum_told enum-told-2 returns returns-2)
+pub beats_spec : {M : Type 1} → statement M
+beats_spec = tie.close (tie.spec enum_told-1 enum_told-in-Nothing returns-in-At returns-in-Nothing)

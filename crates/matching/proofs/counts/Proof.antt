@@ -7,8 +7,8 @@ use Rattle.matching.proofs.counts.Lts as lts
 use Rattle.laws.proofs.both.Reads as both-reads
 use Rattle.laws.proofs.is_finite.Reads as is-finite-reads
 
-is-finite-requires : tie.Need-is-finite-requires
-is-finite-requires c κs = search rules
+is_finite-requires : tie.Need-is_finite-requires
+is_finite-requires c κs = search rules
 
 both-requires : tie.Need-both-requires
 both-requires c κs = search rules
@@ -16,5 +16,5 @@ both-requires c κs = search rules
 returns : tie.Need-returns
 returns c = rw (c.both.ensures, c.before.is_finite.ensures)
 
-pub counts-spec : {M : Type 1} → statement M
-counts-spec = tie.close (tie.spec is-finite-requires both-requires returns)
+pub counts_spec : {M : Type 1} → statement M
+counts_spec = tie.close (tie.spec is_finite-requires both-requires returns)

@@ -13,76 +13,76 @@ use Rattle.matching.proofs.Left.{at_most-total}
 use Rattle.matching.proofs.get_unmatched.Statement.{statement}
 use Rattle.matching.proofs.get_unmatched.Tie as tie
 
-abbrev invariant-loop : tie.invariant-loop
-invariant-loop total n matched at₀ count₀ i₀ at count i = (i ≤ total) × Stands 64 (unmatched i (take n matched)) at count
+abbrev invariant-loop-i : tie.invariant-loop-i
+invariant-loop-i total n matched at₀ count₀ i₀ at count i = (i ≤ total) × Stands 64 (unmatched i (take n matched)) at count
 
-abbrev decreases-loop : tie.decreases-loop
-decreases-loop total n matched at₀ count₀ i₀ at count i = total - i
+abbrev decreases-loop-i : tie.decreases-loop-i
+decreases-loop-i total n matched at₀ count₀ i₀ at count i = total - i
 
-loop-holds : tie.Need-loop-init invariant-loop decreases-loop
+loop-i-init : tie.Need-loop-i-init invariant-loop-i decreases-loop-i
 unfolding below keep
-loop-holds c = (search rules, (refl, refl))
+loop-i-init c = (search rules, (refl, refl))
 
-slice-aggregate-is-among : tie.Need-slice-aggregate-is-among invariant-loop decreases-loop
-slice-aggregate-is-among c = search rules
+slice_bounds-is_among-end : tie.Need-slice_bounds-is_among-end invariant-loop-i decreases-loop-i
+slice_bounds-is_among-end c = search rules
 
-is-among-requires : tie.Need-is-among-requires invariant-loop decreases-loop
-is-among-requires c κs = search rules
+is_among-requires : tie.Need-is_among-requires invariant-loop-i decreases-loop-i
+is_among-requires c κs = search rules
 
 -- there is room for one number more
-room : (c : tie.Then1 invariant-loop decreases-loop) → c.before.before.before.before.loop.count ≤ 63
+room : (c : tie.Then-not-is_among invariant-loop-i decreases-loop-i) → c.before.before.before.before.loop-i.count ≤ 63
 room c =
     omega (
       arith,
-      at_most-total c.before.before.before.before.loop.i
-          (take c.before.before.before.before.before.args.n c.before.before.before.before.before.args.t2),
+      at_most-total c.before.before.before.before.loop-i.i
+          (take c.before.before.before.before.before.args.n c.before.before.before.before.before.args.matched),
     )
 
-mul_at : tie.Need-overflow-mul-at invariant-loop decreases-loop
-mul_at c = record { fits = omega (arith, room c) }
+offset_bounds-at-count : tie.Need-offset_bounds-at-count invariant-loop-i decreases-loop-i
+offset_bounds-at-count c = record { fits = omega (arith, room c) }
 
-array-write-at : tie.Need-array-write-at invariant-loop decreases-loop
-array-write-at c = omega (arith, room c)
+bounds-at-count : tie.Need-bounds-at-count invariant-loop-i decreases-loop-i
+bounds-at-count c = omega (arith, room c)
 
-add-count : tie.Need-overflow-add-count invariant-loop decreases-loop
-add-count c = record { fits = omega (arith, room c) }
+overflow_add-count : tie.Need-overflow_add-count invariant-loop-i decreases-loop-i
+overflow_add-count c = record { fits = omega (arith, room c) }
 
-add-i : tie.Need-overflow-add-i invariant-loop decreases-loop
-add-i c = search rules
+overflow_add-i : tie.Need-overflow_add-i invariant-loop-i decreases-loop-i
+overflow_add-i c = search rules
 
-loop-less : tie.Need-loop-smaller invariant-loop decreases-loop
-loop-less c = search rules
+loop-i-smaller : tie.Need-loop-i-smaller invariant-loop-i decreases-loop-i
+loop-i-smaller c = search rules
 
-loop-again : tie.Need-loop-preserved invariant-loop decreases-loop
-loop-again c =
+loop-i-preserved : tie.Need-loop-i-preserved invariant-loop-i decreases-loop-i
+loop-i-preserved c =
     let s = c.before.before.before.before.before in
-    let loop = c.before.before.before.before.loop in
-    let ms = take s.args.n s.args.t2 in
+    let loop = c.before.before.before.before.loop-i in
+    let ms = take s.args.n s.args.matched in
     let p : ℕ → Bool = λ i. not (holds i ms) in
     let told = ap not (sym c.before.is_among.ensures) in
     ⊎_elim
     (λ w. (omega arith, rw (w.1, w.2) (below_joins 64 p loop.i (omega arith) (told ∙ w.0.taken) loop.invariant.1)))
     (λ w. (omega arith, rw (w.1, w.2) (below_stays 64 p loop.i (told ∙ w.0.left) loop.invariant.1)))
-    c.if1.branch
+    c.if-not-is_among.branch
 
-returns : tie.Need-returns invariant-loop decreases-loop
+returns : tie.Need-returns invariant-loop-i decreases-loop-i
 returns c =
-    let e : c.before.loop.i ≡ c.before.before.args.total = omega arith in
-    rw (c.before.loop.invariant.1.0, c.before.loop.invariant.1.1, e)
+    let e : c.before.loop-i.i ≡ c.before.before.args.total = omega arith in
+    rw (c.before.loop-i.invariant.1.0, c.before.loop-i.invariant.1.1, e)
 
-pub get-unmatched-spec : {M : Type 1} → statement M
-get-unmatched-spec =
+pub get_unmatched_spec : {M : Type 1} → statement M
+get_unmatched_spec =
     tie.close
     (tie.spec
-    invariant-loop
-    decreases-loop
-    loop-holds
-    slice-aggregate-is-among
-    is-among-requires
-    mul_at
-    array-write-at
-    add-count
-    add-i
-    loop-less
-    loop-again
+    invariant-loop-i
+    decreases-loop-i
+    loop-i-init
+    slice_bounds-is_among-end
+    is_among-requires
+    offset_bounds-at-count
+    bounds-at-count
+    overflow_add-count
+    overflow_add-i
+    loop-i-smaller
+    loop-i-preserved
     returns)

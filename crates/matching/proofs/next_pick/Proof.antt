@@ -22,169 +22,169 @@ use Rattle.laws.proofs.both.Reads as both-reads
 use Rattle.matching.proofs.beats.Reads as beats-reads
 use Rattle.matching.proofs.counts.Reads as counts-reads
 
-abbrev invariant-loop3 : tie.invariant-loop3
-invariant-loop3 matrix rows cols threshold used-rows used-cols place₀ best₀ i j₀ place best j =
+abbrev invariant-loop-j : tie.invariant-loop-j
+invariant-loop-j matrix rows cols threshold used-rows used-cols place₀ best₀ i j₀ place best j =
     (j ≤ cols) × (place ≡ scan_row (lent matrix rows cols threshold) used-rows used-cols i j place₀) × Best (lent matrix rows cols threshold) place best
 
-abbrev decreases-loop3 : tie.decreases-loop3
-decreases-loop3 matrix rows cols threshold used-rows used-cols place₀ best₀ i j₀ place best j = cols - j
+abbrev decreases-loop-j : tie.decreases-loop-j
+decreases-loop-j matrix rows cols threshold used-rows used-cols place₀ best₀ i j₀ place best j = cols - j
 
-abbrev invariant-loop2 : tie.invariant-loop2
-invariant-loop2 matrix rows cols threshold used-rows used-cols place₀ best₀ i₀ place best i =
+abbrev invariant-loop-i : tie.invariant-loop-i
+invariant-loop-i matrix rows cols threshold used-rows used-cols place₀ best₀ i₀ place best i =
     (i ≤ rows) × (place ≡ scan_rows (lent matrix rows cols threshold) used-rows used-cols i) × Best (lent matrix rows cols threshold) place best
 
-abbrev decreases-loop2 : tie.decreases-loop2
-decreases-loop2 matrix rows cols threshold used-rows used-cols place₀ best₀ i₀ place best i = rows - i
+abbrev decreases-loop-i : tie.decreases-loop-i
+decreases-loop-i matrix rows cols threshold used-rows used-cols place₀ best₀ i₀ place best i = rows - i
 
-abbrev invariant-loop : tie.invariant-loop
-invariant-loop matrix rows cols threshold used-rows used-cols = Unit {0}
+abbrev invariant-loop-used_rows : tie.invariant-loop-used_rows
+invariant-loop-used_rows matrix rows cols threshold used-rows used-cols = Unit {0}
 
-abbrev decreases-loop : tie.decreases-loop
-decreases-loop matrix rows cols threshold used-rows used-cols = 0
+abbrev decreases-loop-used_rows : tie.decreases-loop-used_rows
+decreases-loop-used_rows matrix rows cols threshold used-rows used-cols = 0
 
-loop-holds : tie.Need-loop-init invariant-loop3 decreases-loop3 invariant-loop2 decreases-loop2 invariant-loop decreases-loop
-loop-holds c = search rules
+loop-used_rows-init : tie.Need-loop-used_rows-init invariant-loop-j decreases-loop-j invariant-loop-i decreases-loop-i invariant-loop-used_rows decreases-loop-used_rows
+loop-used_rows-init c = search rules
 
-loop2-holds : tie.Need-loop2-init invariant-loop3 decreases-loop3 invariant-loop2 decreases-loop2 invariant-loop decreases-loop
+loop-i-init : tie.Need-loop-i-init invariant-loop-j decreases-loop-j invariant-loop-i decreases-loop-i invariant-loop-used_rows decreases-loop-used_rows
 unfolding scan_rows
-loop2-holds c = (search rules, refl, tt)
+loop-i-init c = (search rules, refl, tt)
 
-loop3-holds : tie.Need-loop3-init invariant-loop3 decreases-loop3 invariant-loop2 decreases-loop2 invariant-loop decreases-loop
+loop-j-init : tie.Need-loop-j-init invariant-loop-j decreases-loop-j invariant-loop-i decreases-loop-i invariant-loop-used_rows decreases-loop-used_rows
 unfolding scan_row
-loop3-holds c = (search rules, refl, c.before.loop2.invariant.2)
+loop-j-init c = (search rules, refl, c.before.loop-i.invariant.2)
 
 -- the entry looked at lies in the lent matrix
-inside : (c : tie.In-loop3 invariant-loop3 decreases-loop3 invariant-loop2 decreases-loop2 invariant-loop decreases-loop)
-    → c.before.before.before.loop2.i * c.before.before.before.before.before.before.args.cols + c.before.loop3.j < length c.before.before.before.before.before.before.args.matrix.now
-inside c = cell_below c.before.before.loop2-test.true c.loop3-test.true c.before.before.before.before.before.before.requires.2
+inside : (c : tie.In-loop-j invariant-loop-j decreases-loop-j invariant-loop-i decreases-loop-i invariant-loop-used_rows decreases-loop-used_rows)
+    → c.before.before.before.loop-i.i * c.before.before.before.before.before.before.args.cols + c.before.loop-j.j < length c.before.before.before.before.before.before.args.matrix.now
+inside c = cell_below c.before.before.loop-i-test.true c.loop-j-test.true c.before.before.before.before.before.before.requires.2
 
-mul-x : tie.Need-overflow-mul-x invariant-loop3 decreases-loop3 invariant-loop2 decreases-loop2 invariant-loop decreases-loop
-mul-x c = record { fits = omega (arith, inside c, c.before.before.before.before.before.before.well-formed.0.0) }
+overflow_mul-x : tie.Need-overflow_mul-x invariant-loop-j decreases-loop-j invariant-loop-i decreases-loop-i invariant-loop-used_rows decreases-loop-used_rows
+overflow_mul-x c = record { fits = omega (arith, inside c, c.before.before.before.before.before.before.well_formed.0.0) }
 
-add-x : tie.Need-overflow-add-x invariant-loop3 decreases-loop3 invariant-loop2 decreases-loop2 invariant-loop decreases-loop
-add-x c = record { fits = omega (arith, inside c, c.before.before.before.before.before.before.well-formed.0.0) }
+overflow_add-x : tie.Need-overflow_add-x invariant-loop-j decreases-loop-j invariant-loop-i decreases-loop-i invariant-loop-used_rows decreases-loop-used_rows
+overflow_add-x c = record { fits = omega (arith, inside c, c.before.before.before.before.before.before.well_formed.0.0) }
 
-mul-x-2 : tie.Need-overflow-mul-x-2 invariant-loop3 decreases-loop3 invariant-loop2 decreases-loop2 invariant-loop decreases-loop
-mul-x-2 c = scaled_Fits _ _ 8 (inside c) c.before.before.before.before.before.before.well-formed.0.1
+offset_bounds-matrix-i : tie.Need-offset_bounds-matrix-i invariant-loop-j decreases-loop-j invariant-loop-i decreases-loop-i invariant-loop-used_rows decreases-loop-used_rows
+offset_bounds-matrix-i c = scaled_Fits _ _ 8 (inside c) c.before.before.before.before.before.before.well_formed.0.1
 
-shared-slice-read-x :
-    tie.Need-shared-slice-read-x invariant-loop3 decreases-loop3 invariant-loop2 decreases-loop2 invariant-loop decreases-loop
-shared-slice-read-x c = inside c.before
+bounds-matrix-i :
+    tie.Need-bounds-matrix-i invariant-loop-j decreases-loop-j invariant-loop-i decreases-loop-i invariant-loop-used_rows decreases-loop-used_rows
+bounds-matrix-i c = inside c.before
 
-array-read-both : tie.Need-array-read-both invariant-loop3 decreases-loop3 invariant-loop2 decreases-loop2 invariant-loop decreases-loop
-array-read-both c = omega arith
+bounds-used_rows-i : tie.Need-bounds-used_rows-i invariant-loop-j decreases-loop-j invariant-loop-i decreases-loop-i invariant-loop-used_rows decreases-loop-used_rows
+bounds-used_rows-i c = omega arith
 
-array-read-both-2 : tie.Need-array-read-both-2 invariant-loop3 decreases-loop3 invariant-loop2 decreases-loop2 invariant-loop decreases-loop
-array-read-both-2 c = omega arith
+bounds-used_cols-j : tie.Need-bounds-used_cols-j invariant-loop-j decreases-loop-j invariant-loop-i decreases-loop-i invariant-loop-used_rows decreases-loop-used_rows
+bounds-used_cols-j c = omega arith
 
-both-requires : tie.Need-both-requires invariant-loop3 decreases-loop3 invariant-loop2 decreases-loop2 invariant-loop decreases-loop
-both-requires c κs = search rules
+both-free-requires : tie.Need-both-free-requires invariant-loop-j decreases-loop-j invariant-loop-i decreases-loop-i invariant-loop-used_rows decreases-loop-used_rows
+both-free-requires c κs = search rules
 
-counts-requires : tie.Need-counts-requires invariant-loop3 decreases-loop3 invariant-loop2 decreases-loop2 invariant-loop decreases-loop
+counts-requires : tie.Need-counts-requires invariant-loop-j decreases-loop-j invariant-loop-i decreases-loop-i invariant-loop-used_rows decreases-loop-used_rows
 counts-requires c κs = search rules
 
-both-requires-2 : tie.Need-both-requires-2 invariant-loop3 decreases-loop3 invariant-loop2 decreases-loop2 invariant-loop decreases-loop
-both-requires-2 c κs = search rules
+both-eligible-requires : tie.Need-both-eligible-requires invariant-loop-j decreases-loop-j invariant-loop-i decreases-loop-i invariant-loop-used_rows decreases-loop-used_rows
+both-eligible-requires c κs = search rules
 
-beats-requires : tie.Need-beats-requires invariant-loop3 decreases-loop3 invariant-loop2 decreases-loop2 invariant-loop decreases-loop
+beats-requires : tie.Need-beats-requires invariant-loop-j decreases-loop-j invariant-loop-i decreases-loop-i invariant-loop-used_rows decreases-loop-used_rows
 beats-requires c κs = search rules
 
-both-requires-3 : tie.Need-both-requires-3 invariant-loop3 decreases-loop3 invariant-loop2 decreases-loop2 invariant-loop decreases-loop
-both-requires-3 c κs = search rules
+both-requires : tie.Need-both-requires invariant-loop-j decreases-loop-j invariant-loop-i decreases-loop-i invariant-loop-used_rows decreases-loop-used_rows
+both-requires c κs = search rules
 
-add-j : tie.Need-overflow-add-j invariant-loop3 decreases-loop3 invariant-loop2 decreases-loop2 invariant-loop decreases-loop
-add-j c = search rules
+overflow_add-j : tie.Need-overflow_add-j invariant-loop-j decreases-loop-j invariant-loop-i decreases-loop-i invariant-loop-used_rows decreases-loop-used_rows
+overflow_add-j c = search rules
 
-loop3-less : tie.Need-loop3-smaller invariant-loop3 decreases-loop3 invariant-loop2 decreases-loop2 invariant-loop decreases-loop
-loop3-less c = search rules
+loop-j-smaller : tie.Need-loop-j-smaller invariant-loop-j decreases-loop-j invariant-loop-i decreases-loop-i invariant-loop-used_rows decreases-loop-used_rows
+loop-j-smaller c = search rules
 
 -- what a turn of the column scan looks at
-abbrev seen : tie.Joined1 invariant-loop3 decreases-loop3 invariant-loop2 decreases-loop2 invariant-loop decreases-loop → Matrix
+abbrev seen : tie.Joined-both invariant-loop-j decreases-loop-j invariant-loop-i decreases-loop-i invariant-loop-used_rows decreases-loop-used_rows → Matrix
 seen c = lent c.before.before.before.before.before.before.before.before.before.before.before.before.before.args.matrix.now c.before.before.before.before.before.before.before.before.before.before.before.before.before.args.rows c.before.before.before.before.before.before.before.before.before.before.before.before.before.args.cols c.before.before.before.before.before.before.before.before.before.before.before.before.before.args.threshold
 
-abbrev row : tie.Joined1 invariant-loop3 decreases-loop3 invariant-loop2 decreases-loop2 invariant-loop decreases-loop → ℕ
-row c = c.before.before.before.before.before.before.before.before.before.before.loop2.i
+abbrev row : tie.Joined-both invariant-loop-j decreases-loop-j invariant-loop-i decreases-loop-i invariant-loop-used_rows decreases-loop-used_rows → ℕ
+row c = c.before.before.before.before.before.before.before.before.before.before.loop-i.i
 
-abbrev col : tie.Joined1 invariant-loop3 decreases-loop3 invariant-loop2 decreases-loop2 invariant-loop decreases-loop → ℕ
-col c = c.before.before.before.before.before.before.before.before.loop3.j
+abbrev col : tie.Joined-both invariant-loop-j decreases-loop-j invariant-loop-i decreases-loop-i invariant-loop-used_rows decreases-loop-used_rows → ℕ
+col c = c.before.before.before.before.before.before.before.before.loop-j.j
 
-abbrev found : tie.Joined1 invariant-loop3 decreases-loop3 invariant-loop2 decreases-loop2 invariant-loop decreases-loop → Place
-found c = c.before.before.before.before.before.before.before.before.loop3.place
+abbrev found : tie.Joined-both invariant-loop-j decreases-loop-j invariant-loop-i decreases-loop-i invariant-loop-used_rows decreases-loop-used_rows → Place
+found c = c.before.before.before.before.before.before.before.before.loop-j.place
 
 -- both flags lie within their arrays
-flag-row : (c : tie.Joined1 invariant-loop3 decreases-loop3 invariant-loop2 decreases-loop2 invariant-loop decreases-loop) → get_or c.before.before.before.before.before.before.before.before.before.before.before.before.before.args.t5 (row c) false ≡ get_or c.before.before.before.before.before.before.before.before.before.before.before.before.before.args.t5 (row c) true
-flag-row c = get_or-any c.before.before.before.before.before.before.before.before.before.before.before.before.before.args.t5 (row c) false true (omega (arith, c.before.before.before.before.before.before.before.before.before.before.before.before.before.well-formed.1.1.1.1.0.1.0.1))
+flag-row : (c : tie.Joined-both invariant-loop-j decreases-loop-j invariant-loop-i decreases-loop-i invariant-loop-used_rows decreases-loop-used_rows) → get_or c.before.before.before.before.before.before.before.before.before.before.before.before.before.args.used_rows (row c) false ≡ get_or c.before.before.before.before.before.before.before.before.before.before.before.before.before.args.used_rows (row c) true
+flag-row c = get_or-any c.before.before.before.before.before.before.before.before.before.before.before.before.before.args.used_rows (row c) false true (omega (arith, c.before.before.before.before.before.before.before.before.before.before.before.before.before.well_formed.1.1.1.1.0.1.0.1))
 
-flag-col : (c : tie.Joined1 invariant-loop3 decreases-loop3 invariant-loop2 decreases-loop2 invariant-loop decreases-loop) → get_or c.before.before.before.before.before.before.before.before.before.before.before.before.before.args.t6 (col c) false ≡ get_or c.before.before.before.before.before.before.before.before.before.before.before.before.before.args.t6 (col c) true
-flag-col c = get_or-any c.before.before.before.before.before.before.before.before.before.before.before.before.before.args.t6 (col c) false true (omega (arith, c.before.before.before.before.before.before.before.before.before.before.before.before.before.well-formed.1.1.1.1.1.0.1.0.1))
+flag-col : (c : tie.Joined-both invariant-loop-j decreases-loop-j invariant-loop-i decreases-loop-i invariant-loop-used_rows decreases-loop-used_rows) → get_or c.before.before.before.before.before.before.before.before.before.before.before.before.before.args.used_cols (col c) false ≡ get_or c.before.before.before.before.before.before.before.before.before.before.before.before.before.args.used_cols (col c) true
+flag-col c = get_or-any c.before.before.before.before.before.before.before.before.before.before.before.before.before.args.used_cols (col c) false true (omega (arith, c.before.before.before.before.before.before.before.before.before.before.before.before.before.well_formed.1.1.1.1.1.0.1.0.1))
 
 -- the turn's test is that of `look`
-test : (c : tie.Joined1 invariant-loop3 decreases-loop3 invariant-loop2 decreases-loop2 invariant-loop decreases-loop)
-    → c.before.both3.result ≡ (eligible (seen c) c.before.before.before.before.before.before.before.before.before.before.before.before.before.args.t5 c.before.before.before.before.before.before.before.before.before.before.before.before.before.args.t6 (row c) (col c) && smaller (seen c).entry ((seen c).entry (row c) (col c)) (found c))
+test : (c : tie.Joined-both invariant-loop-j decreases-loop-j invariant-loop-i decreases-loop-i invariant-loop-used_rows decreases-loop-used_rows)
+    → c.before.both.result ≡ (eligible (seen c) c.before.before.before.before.before.before.before.before.before.before.before.before.before.args.used_rows c.before.before.before.before.before.before.before.before.before.before.before.before.before.args.used_cols (row c) (col c) && smaller (seen c).entry ((seen c).entry (row c) (col c)) (found c))
 test c =
-    c.before.both3.ensures
-    ∙ ap₂ ◌&&◌ (c.before.before.before.both2.ensures ∙ ap₂ ◌&&◌ c.before.before.before.before.counts.ensures (c.before.before.before.before.before.both.ensures ∙ ap₂ (λ a b. not a && not b) (flag-row c) (flag-col c)))
-    (c.before.before.beats.ensures ∙ beats_is (seen c) (found c) c.before.before.before.before.before.before.before.before.loop3.best ((seen c).entry (row c) (col c)) c.before.before.before.before.before.before.before.before.loop3.invariant.2)
+    c.before.both.ensures
+    ∙ ap₂ ◌&&◌ (c.before.before.before.both-eligible.ensures ∙ ap₂ ◌&&◌ c.before.before.before.before.counts.ensures (c.before.before.before.before.before.both-free.ensures ∙ ap₂ (λ a b. not a && not b) (flag-row c) (flag-col c)))
+    (c.before.before.beats.ensures ∙ beats_is (seen c) (found c) c.before.before.before.before.before.before.before.before.loop-j.best ((seen c).entry (row c) (col c)) c.before.before.before.before.before.before.before.before.loop-j.invariant.2)
 
-loop3-again : tie.Need-loop3-preserved invariant-loop3 decreases-loop3 invariant-loop2 decreases-loop2 invariant-loop decreases-loop
+loop-j-preserved : tie.Need-loop-j-preserved invariant-loop-j decreases-loop-j invariant-loop-i decreases-loop-i invariant-loop-used_rows decreases-loop-used_rows
 unfolding scan_row
-loop3-again c =
+loop-j-preserved c =
     ⊎_elim
     (λ w. (
       omega arith,
-      rw (add-one, w.1, ← c.before.before.before.before.before.before.before.before.loop3.invariant.1) (look-taken (seen c) c.before.before.before.before.before.before.before.before.before.before.before.before.before.args.t5 c.before.before.before.before.before.before.before.before.before.before.before.before.before.args.t6 (row c) (col c) (found c) c.before.both3.result (test c) w.0.taken),
+      rw (add-one, w.1, ← c.before.before.before.before.before.before.before.before.loop-j.invariant.1) (look-taken (seen c) c.before.before.before.before.before.before.before.before.before.before.before.before.before.args.used_rows c.before.before.before.before.before.before.before.before.before.before.before.before.before.args.used_cols (row c) (col c) (found c) c.before.both.result (test c) w.0.taken),
       rw (w.1, w.2) refl,
     ))
     (λ w. (
       omega arith,
-      rw (add-one, w.1, ← c.before.before.before.before.before.before.before.before.loop3.invariant.1) (look_left (seen c) c.before.before.before.before.before.before.before.before.before.before.before.before.before.args.t5 c.before.before.before.before.before.before.before.before.before.before.before.before.before.args.t6 (row c) (col c) (found c) c.before.both3.result (test c) w.0.left),
-      rw (w.1, w.2) c.before.before.before.before.before.before.before.before.loop3.invariant.2,
+      rw (add-one, w.1, ← c.before.before.before.before.before.before.before.before.loop-j.invariant.1) (look_left (seen c) c.before.before.before.before.before.before.before.before.before.before.before.before.before.args.used_rows c.before.before.before.before.before.before.before.before.before.before.before.before.before.args.used_cols (row c) (col c) (found c) c.before.both.result (test c) w.0.left),
+      rw (w.1, w.2) c.before.before.before.before.before.before.before.before.loop-j.invariant.2,
     ))
-    c.if1.branch
+    c.if-both.branch
 
-add-i : tie.Need-overflow-add-i invariant-loop3 decreases-loop3 invariant-loop2 decreases-loop2 invariant-loop decreases-loop
-add-i c = search rules
+overflow_add-i : tie.Need-overflow_add-i invariant-loop-j decreases-loop-j invariant-loop-i decreases-loop-i invariant-loop-used_rows decreases-loop-used_rows
+overflow_add-i c = search rules
 
-loop2-less : tie.Need-loop2-smaller invariant-loop3 decreases-loop3 invariant-loop2 decreases-loop2 invariant-loop decreases-loop
-loop2-less c = search rules
+loop-i-smaller : tie.Need-loop-i-smaller invariant-loop-j decreases-loop-j invariant-loop-i decreases-loop-i invariant-loop-used_rows decreases-loop-used_rows
+loop-i-smaller c = search rules
 
-loop2-again : tie.Need-loop2-preserved invariant-loop3 decreases-loop3 invariant-loop2 decreases-loop2 invariant-loop decreases-loop
+loop-i-preserved : tie.Need-loop-i-preserved invariant-loop-j decreases-loop-j invariant-loop-i decreases-loop-i invariant-loop-used_rows decreases-loop-used_rows
 unfolding scan_rows
-loop2-again c =
-    let e : c.before.loop3.j ≡ c.before.before.before.before.before.before.args.cols = omega arith in
-    (omega arith, rw add-one (c.before.loop3.invariant.1 ∙ rw (e, c.before.before.before.loop2.invariant.1)), c.before.loop3.invariant.2)
+loop-i-preserved c =
+    let e : c.before.loop-j.j ≡ c.before.before.before.before.before.before.args.cols = omega arith in
+    (omega arith, rw add-one (c.before.loop-j.invariant.1 ∙ rw (e, c.before.before.before.loop-i.invariant.1)), c.before.loop-j.invariant.2)
 
-returns : tie.Need-returns invariant-loop3 decreases-loop3 invariant-loop2 decreases-loop2 invariant-loop decreases-loop
-returns c = let e : c.before.loop2.i ≡ c.before.before.before.before.args.rows = omega arith in rw e at c.before.loop2.invariant.1
+returns : tie.Need-returns invariant-loop-j decreases-loop-j invariant-loop-i decreases-loop-i invariant-loop-used_rows decreases-loop-used_rows
+returns c = let e : c.before.loop-i.i ≡ c.before.before.before.before.args.rows = omega arith in rw e at c.before.loop-i.invariant.1
 
-pub next-pick-spec : {M : Type 1} → statement M
-next-pick-spec =
+pub next_pick_spec : {M : Type 1} → statement M
+next_pick_spec =
     tie.close
     (tie.spec
-    invariant-loop3
-    decreases-loop3
-    invariant-loop2
-    decreases-loop2
-    invariant-loop
-    decreases-loop
-    loop-holds
-    loop2-holds
-    loop3-holds
-    mul-x
-    add-x
-    mul-x-2
-    shared-slice-read-x
-    array-read-both
-    array-read-both-2
-    both-requires
+    invariant-loop-j
+    decreases-loop-j
+    invariant-loop-i
+    decreases-loop-i
+    invariant-loop-used_rows
+    decreases-loop-used_rows
+    loop-used_rows-init
+    loop-i-init
+    loop-j-init
+    overflow_mul-x
+    overflow_add-x
+    offset_bounds-matrix-i
+    bounds-matrix-i
+    bounds-used_rows-i
+    bounds-used_cols-j
+    both-free-requires
     counts-requires
-    both-requires-2
+    both-eligible-requires
     beats-requires
-    both-requires-3
-    add-j
-    loop3-less
-    loop3-again
-    add-i
-    loop2-less
-    loop2-again
+    both-requires
+    overflow_add-j
+    loop-j-smaller
+    loop-j-preserved
+    overflow_add-i
+    loop-i-smaller
+    loop-i-preserved
     returns)

@@ -252,9 +252,9 @@ module _ {M : Type 1} {𝓤 : Ura M} (𝓛 : Logic 𝓤) (mem : Memory → SProp
       (Goes-slice 𝓛 1 0 tt (plain (λ _. P)), (Goes-dropped 𝓛 1 (plain (λ _. Ps)) yes (λ κs x f. refl), (Goes-dropped 𝓛 1 (plain (λ _. usize)) yes (λ κs x f. refl), tt)))
       (put-pairs.clauses 𝓛 mem run) (WpFn 𝓤 H 𝓣.C 𝓣.Λ code.function) (WpFn-mono 𝓤 H 𝓛.laws 𝓣 code.function) walks
 
-pub put-pairs-spec : {M : Type 1} → stated.statement M
+pub put_pairs_spec : {M : Type 1} → stated.statement M
 unfolding code.routine tables_of
-put-pairs-spec 𝓤 𝓛 𝓜 𝓡 =
+put_pairs_spec 𝓤 𝓛 𝓜 𝓡 =
     entered 𝓤 𝓛.H (triple_of 𝓛 put-pairs.signature (put-pairs.spec 𝓛 𝓜.mem 𝓡.run))
     (tables 𝓤 𝓛.H 𝓜 𝓡 code.env).C (tables 𝓤 𝓛.H 𝓜 𝓡 code.env).Λ #pairs·put-pairs code.function (code.unfolded 𝓤 𝓛.H 𝓜 𝓡)
     (meets 𝓛 𝓜.mem 𝓡.run (tables_of 𝓤 𝓛.H 𝓜 (tables 𝓤 𝓛.H 𝓜 𝓡 code.env))

@@ -11,55 +11,55 @@ use Rattle.matching.specs.Greedy.{cleared}
 use Rattle.passes.proofs.columns_of.Statement.{statement}
 use Rattle.passes.proofs.columns_of.Tie as tie
 
-abbrev invariant-loop : tie.invariant-loop
-invariant-loop at n used₀ i₀ used i = (i ≤ n) × (used ≡ cleared (take i at) (replicate 64 true))
+abbrev invariant-loop-i : tie.invariant-loop-i
+invariant-loop-i at n used₀ i₀ used i = (i ≤ n) × (used ≡ cleared (take i at) (replicate 64 true))
 
-abbrev decreases-loop : tie.decreases-loop
-decreases-loop at n used₀ i₀ used i = n - i
+abbrev decreases-loop-i : tie.decreases-loop-i
+decreases-loop-i at n used₀ i₀ used i = n - i
 
-loop-holds : tie.Need-loop-init invariant-loop decreases-loop
+loop-i-init : tie.Need-loop-i-init invariant-loop-i decreases-loop-i
 unfolding through
-loop-holds c = (search rules, refl)
+loop-i-init c = (search rules, refl)
 
-mul-used : tie.Need-overflow-mul-used invariant-loop decreases-loop
-mul-used c = search rules
+offset_bounds-at-i : tie.Need-offset_bounds-at-i invariant-loop-i decreases-loop-i
+offset_bounds-at-i c = search rules
 
-array-read-used : tie.Need-array-read-used invariant-loop decreases-loop
-array-read-used c = search rules
+bounds-at-i : tie.Need-bounds-at-i invariant-loop-i decreases-loop-i
+bounds-at-i c = search rules
 
-array-write-used : tie.Need-array-write-used invariant-loop decreases-loop
-array-write-used c = c.before.before.before.requires.1 c.before.loop.i c.loop-test.true
+bounds-used-at : tie.Need-bounds-used-at invariant-loop-i decreases-loop-i
+bounds-used-at c = c.before.before.before.requires.1 c.before.loop-i.i c.loop-i-test.true
 
-add-i : tie.Need-overflow-add-i invariant-loop decreases-loop
-add-i c = search rules
+overflow_add-i : tie.Need-overflow_add-i invariant-loop-i decreases-loop-i
+overflow_add-i c = search rules
 
-loop-less : tie.Need-loop-smaller invariant-loop decreases-loop
-loop-less c = search rules
+loop-i-smaller : tie.Need-loop-i-smaller invariant-loop-i decreases-loop-i
+loop-i-smaller c = search rules
 
-loop-again : tie.Need-loop-preserved invariant-loop decreases-loop
-loop-again c =
+loop-i-preserved : tie.Need-loop-i-preserved invariant-loop-i decreases-loop-i
+loop-i-preserved c =
     let s = c.before.before.before in
-    let all : length s.args.list.at ≡ 64 = simp length-map at s.well-formed.0.1.1.0.1.0.1 in (
+    let all : length s.args.list.at-1 ≡ 64 = simp length-map at s.well_formed.0.1.1.0.1.0.1 in (
       search rules,
-      through_next (λ i u. set u i false) s.args.list.at c.before.loop.i 0 (replicate 64 true) (omega (arith, s.requires.0)) refl c.before.loop.invariant.1,
+      through_next (λ i u. set u i false) s.args.list.at-1 c.before.loop-i.i 0 (replicate 64 true) (omega (arith, s.requires.0)) refl c.before.loop-i.invariant.1,
     )
 
-returns : tie.Need-returns invariant-loop decreases-loop
+returns : tie.Need-returns invariant-loop-i decreases-loop-i
 returns c =
-    let e : c.before.loop.i ≡ c.before.before.before.args.list.count = omega arith in
-    rw e at c.before.loop.invariant.1
+    let e : c.before.loop-i.i ≡ c.before.before.before.args.list.count = omega arith in
+    rw e at c.before.loop-i.invariant.1
 
-pub columns-of-spec : {M : Type 1} → statement M
-columns-of-spec =
+pub columns_of_spec : {M : Type 1} → statement M
+columns_of_spec =
     tie.close
     (tie.spec
-    invariant-loop
-    decreases-loop
-    loop-holds
-    mul-used
-    array-read-used
-    array-write-used
-    add-i
-    loop-less
-    loop-again
+    invariant-loop-i
+    decreases-loop-i
+    loop-i-init
+    offset_bounds-at-i
+    bounds-at-i
+    bounds-used-at
+    overflow_add-i
+    loop-i-smaller
+    loop-i-preserved
     returns)

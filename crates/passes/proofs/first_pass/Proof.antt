@@ -4,15 +4,15 @@ use Rattle.passes.specs.Passes.{first_pass}
 use Rattle.passes.proofs.first_pass.Statement.{statement}
 use Rattle.passes.proofs.first_pass.Tie as tie
 
-columns-of-requires : tie.Need-columns-of-requires
-columns-of-requires c κs = search rules
+columns_of-used_cols-requires : tie.Need-columns_of-used_cols-requires
+columns_of-used_cols-requires c κs = search rules
 
-match-detections-and-objects-requires : tie.Need-match-detections-and-objects-requires
-match-detections-and-objects-requires c κs = search rules
+match_detections_and_objects-requires : tie.Need-match_detections_and_objects-requires
+match_detections_and_objects-requires c κs = search rules
 
 returns : tie.Need-returns
 unfolding first_pass
-returns c = rw (c.match-detections-and-objects.ensures, c.before.columns_of.ensures)
+returns c = rw (c.match_detections_and_objects.ensures, c.before.columns_of-used_cols.ensures)
 
-pub first-pass-spec : {M : Type 1} → statement M
-first-pass-spec = tie.close (tie.spec columns-of-requires match-detections-and-objects-requires returns)
+pub first_pass_spec : {M : Type 1} → statement M
+first_pass_spec = tie.close (tie.spec columns_of-used_cols-requires match_detections_and_objects-requires returns)

@@ -11,55 +11,55 @@ use Rattle.matching.specs.Greedy.{marked}
 use Rattle.passes.proofs.rows_of.Statement.{statement}
 use Rattle.passes.proofs.rows_of.Tie as tie
 
-abbrev invariant-loop : tie.invariant-loop
-invariant-loop rows n used₀ i₀ used i = (i ≤ n) × (used ≡ marked (take i rows) (replicate 32 false))
+abbrev invariant-loop-i : tie.invariant-loop-i
+invariant-loop-i rows n used₀ i₀ used i = (i ≤ n) × (used ≡ marked (take i rows) (replicate 32 false))
 
-abbrev decreases-loop : tie.decreases-loop
-decreases-loop rows n used₀ i₀ used i = n - i
+abbrev decreases-loop-i : tie.decreases-loop-i
+decreases-loop-i rows n used₀ i₀ used i = n - i
 
-loop-holds : tie.Need-loop-init invariant-loop decreases-loop
+loop-i-init : tie.Need-loop-i-init invariant-loop-i decreases-loop-i
 unfolding through
-loop-holds c = (search rules, refl)
+loop-i-init c = (search rules, refl)
 
-mul-used : tie.Need-overflow-mul-used invariant-loop decreases-loop
-mul-used c = search rules
+offset_bounds-rows-i : tie.Need-offset_bounds-rows-i invariant-loop-i decreases-loop-i
+offset_bounds-rows-i c = search rules
 
-array-read-used : tie.Need-array-read-used invariant-loop decreases-loop
-array-read-used c = search rules
+bounds-rows-i : tie.Need-bounds-rows-i invariant-loop-i decreases-loop-i
+bounds-rows-i c = search rules
 
-array-write-used : tie.Need-array-write-used invariant-loop decreases-loop
-array-write-used c = c.before.before.before.requires.1 c.before.loop.i c.loop-test.true
+bounds-used-rows : tie.Need-bounds-used-rows invariant-loop-i decreases-loop-i
+bounds-used-rows c = c.before.before.before.requires.1 c.before.loop-i.i c.loop-i-test.true
 
-add-i : tie.Need-overflow-add-i invariant-loop decreases-loop
-add-i c = search rules
+overflow_add-i : tie.Need-overflow_add-i invariant-loop-i decreases-loop-i
+overflow_add-i c = search rules
 
-loop-less : tie.Need-loop-smaller invariant-loop decreases-loop
-loop-less c = search rules
+loop-i-smaller : tie.Need-loop-i-smaller invariant-loop-i decreases-loop-i
+loop-i-smaller c = search rules
 
-loop-again : tie.Need-loop-preserved invariant-loop decreases-loop
-loop-again c =
+loop-i-preserved : tie.Need-loop-i-preserved invariant-loop-i decreases-loop-i
+loop-i-preserved c =
     let s = c.before.before.before in
-    let all : length s.args.picks.rows ≡ 32 = simp length-map at s.well-formed.0.1.1.0.1.0.1 in (
+    let all : length s.args.picks.rows-1 ≡ 32 = simp length-map at s.well_formed.0.1.1.0.1.0.1 in (
       search rules,
-      through_next (λ i u. set u i true) s.args.picks.rows c.before.loop.i 0 (replicate 32 false) (omega (arith, s.requires.0)) refl c.before.loop.invariant.1,
+      through_next (λ i u. set u i true) s.args.picks.rows-1 c.before.loop-i.i 0 (replicate 32 false) (omega (arith, s.requires.0)) refl c.before.loop-i.invariant.1,
     )
 
-returns : tie.Need-returns invariant-loop decreases-loop
+returns : tie.Need-returns invariant-loop-i decreases-loop-i
 returns c =
-    let e : c.before.loop.i ≡ c.before.before.before.args.picks.count = omega arith in
-    rw e at c.before.loop.invariant.1
+    let e : c.before.loop-i.i ≡ c.before.before.before.args.picks.count = omega arith in
+    rw e at c.before.loop-i.invariant.1
 
-pub rows-of-spec : {M : Type 1} → statement M
-rows-of-spec =
+pub rows_of_spec : {M : Type 1} → statement M
+rows_of_spec =
     tie.close
     (tie.spec
-    invariant-loop
-    decreases-loop
-    loop-holds
-    mul-used
-    array-read-used
-    array-write-used
-    add-i
-    loop-less
-    loop-again
+    invariant-loop-i
+    decreases-loop-i
+    loop-i-init
+    offset_bounds-rows-i
+    bounds-rows-i
+    bounds-used-rows
+    overflow_add-i
+    loop-i-smaller
+    loop-i-preserved
     returns)

@@ -4,18 +4,18 @@ use Rattle.passes.specs.Passes.{second_pass}
 use Rattle.passes.proofs.second_pass.Statement.{statement}
 use Rattle.passes.proofs.second_pass.Tie as tie
 
-rows-of-requires : tie.Need-rows-of-requires
-rows-of-requires c κs = search rules
+rows_of-used_rows-requires : tie.Need-rows_of-used_rows-requires
+rows_of-used_rows-requires c κs = search rules
 
-columns-of-requires : tie.Need-columns-of-requires
-columns-of-requires c κs = search rules
+columns_of-used_cols-requires : tie.Need-columns_of-used_cols-requires
+columns_of-used_cols-requires c κs = search rules
 
-match-detections-and-objects-requires : tie.Need-match-detections-and-objects-requires
-match-detections-and-objects-requires c κs = search rules
+match_detections_and_objects-requires : tie.Need-match_detections_and_objects-requires
+match_detections_and_objects-requires c κs = search rules
 
 returns : tie.Need-returns
 unfolding second_pass
-returns c = rw (← c.before.before.rows_of_lem.ensures, ← c.before.columns_of.ensures) c.match-detections-and-objects.ensures
+returns c = rw (← c.before.before.rows_of_lem.ensures, ← c.before.columns_of-used_cols.ensures) c.match_detections_and_objects.ensures
 
-pub second-pass-spec : {M : Type 1} → statement M
-second-pass-spec = tie.close (tie.spec rows-of-requires columns-of-requires match-detections-and-objects-requires returns)
+pub second_pass_spec : {M : Type 1} → statement M
+second_pass_spec = tie.close (tie.spec rows_of-used_rows-requires columns_of-used_cols-requires match_detections_and_objects-requires returns)

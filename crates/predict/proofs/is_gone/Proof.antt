@@ -4,20 +4,20 @@ use mir.Facts.{to_z-of_z}
 use Rattle.predict.proofs.is_gone.Statement.{statement}
 use Rattle.predict.proofs.is_gone.Tie as tie
 
-enum_told : tie.Need-enum-told
-enum_told c = search rules
+enum_told-1 : tie.Need-enum_told-1
+enum_told-1 c = search rules
 
-enum-told-2 : tie.Need-enum-told-2
-enum-told-2 c = search rules
+enum_told-in-Present : tie.Need-enum_told-in-Present
+enum_told-in-Present c = search rules
 
-is-below-zero-requires : tie.Need-is-below-zero-requires
-is-below-zero-requires c κs = search rules
+is_below_zero-requires : tie.Need-is_below_zero-requires
+is_below_zero-requires c κs = search rules
 
-returns : tie.Need-returns
-returns c = rw (to_z-of_z (record { sfits = c.struct_told.given.1.0.1 }), c.before.before.enum_told.given.1)
+returns-in-Absent : tie.Need-returns-in-Absent
+returns-in-Absent c = rw (to_z-of_z (record { sfits = c.struct_told-1.given.1.0.1 }), c.before.before.enum_told-1.given.1)
 
-returns-2 : tie.Need-returns-2
-returns-2 c = rw (c.is-below-zero.ensures, c.before.enum-told2.given.1)
+returns-in-Present : tie.Need-returns-in-Present
+returns-in-Present c = rw (c.is_below_zero.ensures, c.before.enum_told-in-Present-1.given.1)
 
-pub is-gone-spec : {M : Type 1} → statement M
-is-gone-spec = tie.close (tie.spec enum_told enum-told-2 is-below-zero-requires returns returns-2)
+pub is_gone_spec : {M : Type 1} → statement M
+is_gone_spec = tie.close (tie.spec enum_told-1 enum_told-in-Present is_below_zero-requires returns-in-Absent returns-in-Present)

@@ -18,144 +18,144 @@ use Rattle.table.proofs.Reading.{blank, read}
 use Rattle.predict.proofs.predict_each.Statement.{statement}
 use Rattle.predict.proofs.predict_each.Tie as tie
 
-abbrev invariant-loop : tie.invariant-loop
-invariant-loop config n s₀ records₀ size i₀ s records i =
+abbrev invariant-loop-i : tie.invariant-loop-i
+invariant-loop-i config n s₀ records₀ size i₀ s records i =
     (i ≤ n)
     × (records ≡ records_back (each_predicted config (slots (block_size config) records₀ s₀ i)) records₀)
     × (s ≡ floats_back (block_size config) (each_predicted config (slots (block_size config) records₀ s₀ i)) s₀)
 
-abbrev decreases-loop : tie.decreases-loop
-decreases-loop config n s₀ records₀ size i₀ s records i = n - i
+abbrev decreases-loop-i : tie.decreases-loop-i
+decreases-loop-i config n s₀ records₀ size i₀ s records i = n - i
 
-abbrev given : tie.At-loop invariant-loop decreases-loop → tie.Start invariant-loop decreases-loop
+abbrev given : tie.At-loop-i invariant-loop-i decreases-loop-i → tie.Start invariant-loop-i decreases-loop-i
 given l = l.before.before.before
 
-layout-of-requires : tie.Need-layout-of-requires invariant-loop decreases-loop
-layout-of-requires c κs = search rules
+layout_of-at-requires : tie.Need-layout_of-at-requires invariant-loop-i decreases-loop-i
+layout_of-at-requires c κs = search rules
 
-loop-holds : tie.Need-loop-init invariant-loop decreases-loop
+loop-i-init : tie.Need-loop-i-init invariant-loop-i decreases-loop-i
 unfolding slots blocks_of
-loop-holds c = (search rules, refl, rw zero-mul)
+loop-i-init c = (search rules, refl, rw zero-mul)
 
-mul-o : tie.Need-overflow-mul-o invariant-loop decreases-loop
-mul-o c = search rules
+offset_bounds-records-i : tie.Need-offset_bounds-records-i invariant-loop-i decreases-loop-i
+offset_bounds-records-i c = search rules
 
-array-copy-out-o : tie.Need-array-copy-out-o invariant-loop decreases-loop
-array-copy-out-o c = search rules
+bounds-records-i : tie.Need-bounds-records-i invariant-loop-i decreases-loop-i
+bounds-records-i c = search rules
 
 -- the record that the code read
-here : (c : tie.In-loop invariant-loop decreases-loop)
-    → let l = c.before in get_or l.loop.records l.loop.i blank ≡ get_or (given l).args.t2 l.loop.i zero_object
+here : (c : tie.In-loop-i invariant-loop-i decreases-loop-i)
+    → let l = c.before in get_or l.loop-i.records l.loop-i.i blank ≡ get_or (given l).args.records l.loop-i.i zero_object
 here c =
     let l = c.before in
     let a = (given l).args in
-    let all : length a.t2 ≡ 64 = (given l).well-formed.1.0.1.0.1 in
-    let same = records_long a.config a.t2 a.s.now l.loop.i (omega arith) l.loop.invariant.1 in
-    read l.loop.records l.loop.i (omega arith) ∙ record_unmoved a.config a.t2 a.s.now l.loop.i l.loop.invariant.1
+    let all : length a.t2 ≡ 64 = (given l).well_formed.1.0.1.0.1 in
+    let same = records_long a.config a.t2 a.s-1.now l.loop-i.i (omega arith) l.loop-i.invariant.1 in
+    read l.loop-i.records l.loop-i.i (omega arith) ∙ record_unmoved a.config a.t2 a.s-1.now l.loop-i.i l.loop-i.invariant.1
 
-abbrev size_of : (l : tie.At-loop invariant-loop decreases-loop) → l.before.layout_of.result.size ≡ block_size (given l).args.config
-size_of l = ap (λ (r : Layout). r.size) l.before.layout_of.ensures
+abbrev size_of : (l : tie.At-loop-i invariant-loop-i decreases-loop-i) → l.before.layout_of-at.result.size ≡ block_size (given l).args.config
+size_of l = ap (λ (r : Layout). r.size) l.before.layout_of-at.ensures
 
 -- its block lies in the floats
-inside : (c : tie.In-loop invariant-loop decreases-loop)
+inside : (c : tie.In-loop-i invariant-loop-i decreases-loop-i)
     → let l = c.before in
-    let size = l.before.layout_of.result.size in
-    (l.loop.i * size + size ≤ length (given l).args.s.now) × (length l.loop.s ≡ length (given l).args.s.now)
+    let size = l.before.layout_of-at.result.size in
+    (l.loop-i.i * size + size ≤ length (given l).args.s.now) × (length l.loop-i.s ≡ length (given l).args.s.now)
 inside c =
     let l = c.before in
     let a = (given l).args in (
-      block_inside a.config a.t2 a.s.now l.loop.i (size_of l) c.loop-test.true (given l).requires.2,
-      floats_long a.config a.t2 a.s.now l.loop.i l.loop.invariant.0 (given l).requires.2 l.loop.invariant.2,
+      block_inside a.config a.t2 a.s-1.now l.loop-i.i (size_of l) c.loop-i-test.true (given l).requires.2,
+      floats_long a.config a.t2 a.s-1.now l.loop-i.i l.loop-i.invariant.0 (given l).requires.2 l.loop-i.invariant.2,
     )
 
-mul-start : tie.Need-overflow-mul-start invariant-loop decreases-loop
-mul-start c = record { fits = omega (arith, inside c.before, (given c.before.before).good.1.1.1.0.0) }
+overflow_mul-start : tie.Need-overflow_mul-start invariant-loop-i decreases-loop-i
+overflow_mul-start c = record { fits = omega (arith, inside c.before, (given c.before.before).good.1.1.1.0.0) }
 
-add-end : tie.Need-overflow-add-end invariant-loop decreases-loop
-add-end c = record { fits = omega (arith, inside c.before, (given c.before.before).good.1.1.1.0.0) }
+overflow_add-end : tie.Need-overflow_add-end invariant-loop-i decreases-loop-i
+overflow_add-end c = record { fits = omega (arith, inside c.before, (given c.before.before).good.1.1.1.0.0) }
 
-mul-predict : tie.Need-overflow-mul-predict invariant-loop decreases-loop
-mul-predict c = record { fits = omega (arith, inside c.before, (given c.before.before).good.1.1.1.0.1) }
+offset_bounds-s-start : tie.Need-offset_bounds-s-start invariant-loop-i decreases-loop-i
+offset_bounds-s-start c = record { fits = omega (arith, inside c.before, (given c.before.before).good.1.1.1.0.1) }
 
-sub-predict : tie.Need-overflow-sub-predict invariant-loop decreases-loop
-sub-predict c = search rules
+slice_bounds-predict-count : tie.Need-slice_bounds-predict-count invariant-loop-i decreases-loop-i
+slice_bounds-predict-count c = search rules
 
-part-predict-start : tie.Need-slice-bounds-predict-start invariant-loop decreases-loop
-part-predict-start c = search rules
+slice_bounds-predict-start : tie.Need-slice_bounds-predict-start invariant-loop-i decreases-loop-i
+slice_bounds-predict-start c = search rules
 
-part-predict-end : tie.Need-slice-bounds-predict-end invariant-loop decreases-loop
-part-predict-end c = omega (arith, inside c.before)
+slice_bounds-predict-end : tie.Need-slice_bounds-predict-end invariant-loop-i decreases-loop-i
+slice_bounds-predict-end c = omega (arith, inside c.before)
 
-predict-requires : tie.Need-predict-requires invariant-loop decreases-loop
-predict-requires c κs =
+predict-next-requires : tie.Need-predict-next-requires invariant-loop-i decreases-loop-i
+predict-next-requires c κs =
     let t = c.before.before in
     let l = t.before in
     let p = (given l).requires in
-    let size = l.before.layout_of.result.size in
-    let start = l.loop.i * size in
+    let size = l.before.layout_of-at.result.size in
+    let start = l.loop-i.i * size in
     let h = inside t in
     let part : start + size - start ≡ size = omega arith in (
       p.0,
-      rw (here t) (p.3 l.loop.i t.loop-test.true),
-      sym (part_count l.loop.s start (start + size) (omega arith, omega arith)) ∙ part ∙ size_of l,
+      rw (here t) (p.3 l.loop-i.i t.loop-i-test.true),
+      sym (part_count l.loop-i.s-1 start (start + size) (omega arith, omega arith)) ∙ part ∙ size_of l,
     )
 
-mul-records : tie.Need-overflow-mul-records invariant-loop decreases-loop
-mul-records c = search rules
+offset_bounds-records-i-in-loop-i : tie.Need-offset_bounds-records-i-in-loop-i invariant-loop-i decreases-loop-i
+offset_bounds-records-i-in-loop-i c = search rules
 
-array-set-from-records : tie.Need-array-set-from-records invariant-loop decreases-loop
-array-set-from-records c = search rules
+bounds-records-i-in-loop-i : tie.Need-bounds-records-i-in-loop-i invariant-loop-i decreases-loop-i
+bounds-records-i-in-loop-i c = search rules
 
-add-i : tie.Need-overflow-add-i invariant-loop decreases-loop
-add-i c = search rules
+overflow_add-i : tie.Need-overflow_add-i invariant-loop-i decreases-loop-i
+overflow_add-i c = search rules
 
-loop-less : tie.Need-loop-smaller invariant-loop decreases-loop
-loop-less c = search rules
+loop-i-smaller : tie.Need-loop-i-smaller invariant-loop-i decreases-loop-i
+loop-i-smaller c = search rules
 
-loop-again : tie.Need-loop-preserved invariant-loop decreases-loop
-loop-again c =
+loop-i-preserved : tie.Need-loop-i-preserved invariant-loop-i decreases-loop-i
+loop-i-preserved c =
     let called = c.before.before in
     let t = called.before.before.before in
     let l = t.before in
     let a = (given l).args in
-    let object = called.predict.ensures.0 ∙ ap (object_predicted a.config) (here t) in
-    let all : length a.t2 ≡ 64 = (given l).well-formed.1.0.1.0.1 in (
+    let object = called.predict-next.ensures.0 ∙ ap (object_predicted a.config) (here t) in
+    let all : length a.t2 ≡ 64 = (given l).well_formed.1.0.1.0.1 in (
       search rules,
-      rw add-one (record_predicted a.config a.t2 a.s.now l.loop.i (omega arith) l.loop.invariant.1 object),
-      rw add-one (block-predicted a.config a.t2 a.s.now l.loop.i (size_of l) (inside t).0 l.loop.invariant.2 called.predict.ensures.1 refl),
+      rw add-one (record_predicted a.config a.t2 a.s-1.now l.loop-i.i (omega arith) l.loop-i.invariant.1 object),
+      rw add-one (block-predicted a.config a.t2 a.s-1.now l.loop-i.i (size_of l) (inside t).0 l.loop-i.invariant.2 called.predict-next.ensures.1 refl),
     )
 
-same_length : tie.Need-same-length invariant-loop decreases-loop
-same_length c =
+shape_of-s : tie.Need-shape_of-s invariant-loop-i decreases-loop-i
+shape_of-s c =
     let a = (given c.before).args in
-    floats_long a.config a.t2 a.s.now c.before.loop.i c.before.loop.invariant.0 (given c.before).pre.2 c.before.loop.invariant.2
+    floats_long a.config a.t2 a.s-1.now c.before.loop-i.i c.before.loop-i.invariant.0 (given c.before).pre.2 c.before.loop-i.invariant.2
 
-returns : tie.Need-returns invariant-loop decreases-loop
+returns : tie.Need-returns invariant-loop-i decreases-loop-i
 returns c =
-    let e : c.before.loop.i ≡ (given c.before).args.n = omega arith in
-    (rw e at c.before.loop.invariant.1, rw e at c.before.loop.invariant.2)
+    let e : c.before.loop-i.i ≡ (given c.before).args.n = omega arith in
+    (rw e at c.before.loop-i.invariant.1, rw e at c.before.loop-i.invariant.2)
 
-pub predict-each-spec : {M : Type 1} → statement M
-predict-each-spec =
+pub predict_each_spec : {M : Type 1} → statement M
+predict_each_spec =
     tie.close
     (tie.spec
-    invariant-loop
-    decreases-loop
-    layout-of-requires
-    loop-holds
-    mul-o
-    array-copy-out-o
-    mul-start
-    add-end
-    mul-predict
-    sub-predict
-    part-predict-start
-    part-predict-end
-    predict-requires
-    mul-records
-    array-set-from-records
-    add-i
-    loop-less
-    loop-again
-    same_length
+    invariant-loop-i
+    decreases-loop-i
+    layout_of-at-requires
+    loop-i-init
+    offset_bounds-records-i
+    bounds-records-i
+    overflow_mul-start
+    overflow_add-end
+    offset_bounds-s-start
+    slice_bounds-predict-count
+    slice_bounds-predict-start
+    slice_bounds-predict-end
+    predict-next-requires
+    offset_bounds-records-i-in-loop-i
+    bounds-records-i-in-loop-i
+    overflow_add-i
+    loop-i-smaller
+    loop-i-preserved
+    shape_of-s
     returns)

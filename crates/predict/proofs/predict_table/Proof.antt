@@ -10,52 +10,52 @@ use Rattle.predict.proofs.Composing.{few, floats-room, kept_ranges, sorted, reco
 use Rattle.predict.proofs.predict_table.Statement.{statement}
 use Rattle.predict.proofs.predict_table.Tie as tie
 
-abbrev given : tie.After-drop-gone → tie.Start
+abbrev given : tie.After-drop_gone-kept → tie.Start
 given d = d.before.before.before.before.before.before
 
-drop-gone-requires : tie.Need-drop-gone-requires
-drop-gone-requires c κs = search rules
+drop_gone-kept-requires : tie.Need-drop_gone-kept-requires
+drop_gone-kept-requires c κs = search rules
 
-fit : (d : tie.After-drop-gone) → d.drop-gone.result.count ≤ 64
+fit : (d : tie.After-drop_gone-kept) → d.drop_gone-kept.result.count ≤ 64
 fit d =
     let a = (given d).args in
     let p = (given d).requires in
-    omega (arith, p.fit, few a.t.config a.t.counts.records a.t.records a.s.now p.room d.drop-gone.ensures.0 d.drop-gone.ensures.1)
+    omega (arith, p.fit, few a.t.config-1 a.t.counts-1.records-1 a.t.records-1 a.s-1.now p.room d.drop_gone-kept.ensures.0 d.drop_gone-kept.ensures.1)
 
-sort-out-requires : tie.Need-sort-out-requires
-sort-out-requires c κs = fit c.before.before.before
+sort_out-alive-requires : tie.Need-sort_out-alive-requires
+sort_out-alive-requires c κs = fit c.before.before.before
 
-sort-out-requires-2 : tie.Need-sort-out-requires-2
-sort-out-requires-2 c κs = fit c.before.before.before.before
+sort_out-initializing-requires : tie.Need-sort_out-initializing-requires
+sort_out-initializing-requires c κs = fit c.before.before.before.before
 
-sort-out-requires-3 : tie.Need-sort-out-requires-3
-sort-out-requires-3 c κs = fit c.before.before.before.before.before
+sort_out-dead-requires : tie.Need-sort_out-dead-requires
+sort_out-dead-requires c κs = fit c.before.before.before.before.before
 
-predict-each-requires : tie.Need-predict-each-requires
-predict-each-requires c κs =
+predict_each-predicted-requires : tie.Need-predict_each-predicted-requires
+predict_each-predicted-requires c κs =
     let d = c.before.before.before.before.before.before.before in
     let a = (given d).args in
     let p = (given d).requires in
-    let e = d.drop-gone.ensures in (
+    let e = d.drop_gone-kept.ensures in (
       p.sizes,
       fit d,
-      floats-room a.t.config a.t.counts.records a.t.records a.s.now p.room e.0 e.1,
-      kept_ranges a.t.config a.t.counts.records a.t.records a.s.now p.room e.0 e.1 p.ranges,
+      floats-room a.t.config-1 a.t.counts-1.records-1 a.t.records-1 a.s-1.now p.room e.0 e.1,
+      kept_ranges a.t.config-1 a.t.counts-1.records-1 a.t.records-1 a.s-1.now p.room e.0 e.1 p.ranges,
     )
 
-no-numbers-requires : tie.Need-no-numbers-requires
-no-numbers-requires c κs = search rules
+no_numbers-none-requires : tie.Need-no_numbers-none-requires
+no_numbers-none-requires c κs = search rules
 
-no-candidates-requires : tie.Need-no-candidates-requires
-no-candidates-requires c κs = search rules
+no_candidates-candidates-requires : tie.Need-no_candidates-candidates-requires
+no_candidates-candidates-requires c κs = search rules
 
-add-t20 : tie.Need-overflow-add-t20
-add-t20 c =
+overflow_add-result : tie.Need-overflow_add-result
+overflow_add-result c =
     let d = c.before.before.before.before.before.before.before.before.before.before.before.before.before in
     record { fits = omega (arith, (given d).requires.frames) }
 
-same_length : tie.Need-same-length
-same_length c = search rules
+shape_of-s : tie.Need-shape_of-s
+shape_of-s c = search rules
 
 returns : tie.Need-returns
 unfolding predict_table predict_floats
@@ -67,31 +67,31 @@ returns c =
     let d = alive.before.before.before.before in
     let a = (given d).args in
     let room = (given d).requires.room in
-    let e = d.drop-gone.ensures in
-    let places = sorted a.t.config a.t.counts.records a.t.records a.s.now room e.0 e.1 in (
+    let e = d.drop_gone-kept.ensures in
+    let places = sorted a.t.config-1 a.t.counts-1.records-1 a.t.records-1 a.s-1.now room e.0 e.1 in (
       rw (
         ap (λ (k : Kept). k.count) e.0,
-        each.predict-each.ensures.0 ∙ records-predicted a.t.config a.t.counts.records a.t.records a.s.now room e.0 e.1,
-        alive.sort-out.ensures ∙ places Alive,
-        initializing.sort-out2.ensures ∙ places Initializing,
-        dead.sort-out3.ensures ∙ places Dead,
-        c.before.before.no-numbers.ensures,
-        c.before.no-candidates.ensures,
+        each.predict_each-predicted.ensures.0 ∙ records-predicted a.t.config-1 a.t.counts-1.records-1 a.t.records-1 a.s-1.now room e.0 e.1,
+        alive.sort_out-alive.ensures ∙ places Alive,
+        initializing.sort_out-initializing.ensures ∙ places Initializing,
+        dead.sort_out-dead.ensures ∙ places Dead,
+        c.before.before.no_numbers-none.ensures,
+        c.before.no_candidates-candidates.ensures,
       ),
-      each.predict-each.ensures.1 ∙ floats-predicted a.t.config a.t.counts.records a.t.records a.s.now room e.0 e.1,
+      each.predict_each-predicted.ensures.1 ∙ floats-predicted a.t.config-1 a.t.counts-1.records-1 a.t.records-1 a.s-1.now room e.0 e.1,
     )
 
-pub predict-table-spec : {M : Type 1} → statement M
-predict-table-spec =
+pub predict_table_spec : {M : Type 1} → statement M
+predict_table_spec =
     tie.close
     (tie.spec
-    drop-gone-requires
-    sort-out-requires
-    sort-out-requires-2
-    sort-out-requires-3
-    predict-each-requires
-    no-numbers-requires
-    no-candidates-requires
-    add-t20
-    same_length
+    drop_gone-kept-requires
+    sort_out-alive-requires
+    sort_out-initializing-requires
+    sort_out-dead-requires
+    predict_each-predicted-requires
+    no_numbers-none-requires
+    no_candidates-candidates-requires
+    overflow_add-result
+    shape_of-s
     returns)

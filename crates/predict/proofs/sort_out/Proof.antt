@@ -22,85 +22,85 @@ use Rattle.predict.proofs.sort_out.Tie as tie
 abbrev stands : TrackerConfig → Sort → List TrackedObject → ℕ → Bool
 stands c sort records i = belongs c sort (get_or records i zero_object)
 
-abbrev invariant-loop : tie.invariant-loop
-invariant-loop config sort n records at₀ count₀ i₀ at count i = (i ≤ n) × Stands 64 (keep (stands config sort records) (below i)) at count
+abbrev invariant-loop-i : tie.invariant-loop-i
+invariant-loop-i config sort n records at₀ count₀ i₀ at count i = (i ≤ n) × Stands 64 (keep (stands config sort records) (below i)) at count
 
-abbrev decreases-loop : tie.decreases-loop
-decreases-loop config sort n records at₀ count₀ i₀ at count i = n - i
+abbrev decreases-loop-i : tie.decreases-loop-i
+decreases-loop-i config sort n records at₀ count₀ i₀ at count i = n - i
 
-loop-holds : tie.Need-loop-init invariant-loop decreases-loop
+loop-i-init : tie.Need-loop-i-init invariant-loop-i decreases-loop-i
 unfolding below keep
-loop-holds c = (search rules, (refl, refl))
+loop-i-init c = (search rules, (refl, refl))
 
-mul-o : tie.Need-overflow-mul-o invariant-loop decreases-loop
-mul-o c = search rules
+offset_bounds-records-i : tie.Need-offset_bounds-records-i invariant-loop-i decreases-loop-i
+offset_bounds-records-i c = search rules
 
-array-copy-out-o : tie.Need-array-copy-out-o invariant-loop decreases-loop
-array-copy-out-o c = search rules
+bounds-records-i : tie.Need-bounds-records-i invariant-loop-i decreases-loop-i
+bounds-records-i c = search rules
 
-stands-in-requires : tie.Need-stands-in-requires invariant-loop decreases-loop
-stands-in-requires c κs = search rules
+stands_in-requires : tie.Need-stands_in-requires invariant-loop-i decreases-loop-i
+stands_in-requires c κs = search rules
 
 -- what the call says of the record that the code read
-answered : (c : tie.After-stands-in invariant-loop decreases-loop)
+answered : (c : tie.After-stands_in invariant-loop-i decreases-loop-i)
     → let s = c.before.before.before.before in
-    c.stands-in.result ≡ stands s.args.config s.args.sort s.args.t3 c.before.before.before.loop.i
+    c.stands_in.result ≡ stands s.args.config s.args.sort s.args.records c.before.before.before.loop-i.i
 answered c =
     let s = c.before.before.before.before in
-    let all : length s.args.t3 ≡ 64 = s.well-formed.1.1.0.1.0.1 in
-    c.stands-in.ensures ∙ ap (belongs s.args.config s.args.sort) (read s.args.t3 c.before.before.before.loop.i (omega arith))
+    let all : length s.args.records ≡ 64 = s.well_formed.1.1.0.1.0.1 in
+    c.stands_in.ensures ∙ ap (belongs s.args.config s.args.sort) (read s.args.records c.before.before.before.loop-i.i (omega arith))
 
 -- there is room for one place more
-room : (c : tie.Then1 invariant-loop decreases-loop) → c.before.before.before.before.loop.count ≤ 63
+room : (c : tie.Then-stands_in invariant-loop-i decreases-loop-i) → c.before.before.before.before.loop-i.count ≤ 63
 room c =
     let a = c.before.before.before.before.before.args in
-    omega (arith, at_most (stands a.config a.sort a.t3) c.before.before.before.before.loop.i)
+    omega (arith, at_most (stands a.config a.sort a.t3) c.before.before.before.before.loop-i.i)
 
-mul_at : tie.Need-overflow-mul-at invariant-loop decreases-loop
-mul_at c = record { fits = omega (arith, room c) }
+offset_bounds-at-count : tie.Need-offset_bounds-at-count invariant-loop-i decreases-loop-i
+offset_bounds-at-count c = record { fits = omega (arith, room c) }
 
-array-write-at : tie.Need-array-write-at invariant-loop decreases-loop
-array-write-at c = omega (arith, room c)
+bounds-at-count : tie.Need-bounds-at-count invariant-loop-i decreases-loop-i
+bounds-at-count c = omega (arith, room c)
 
-add-count : tie.Need-overflow-add-count invariant-loop decreases-loop
-add-count c = record { fits = omega (arith, room c) }
+overflow_add-count : tie.Need-overflow_add-count invariant-loop-i decreases-loop-i
+overflow_add-count c = record { fits = omega (arith, room c) }
 
-add-i : tie.Need-overflow-add-i invariant-loop decreases-loop
-add-i c = search rules
+overflow_add-i : tie.Need-overflow_add-i invariant-loop-i decreases-loop-i
+overflow_add-i c = search rules
 
-loop-less : tie.Need-loop-smaller invariant-loop decreases-loop
-loop-less c = search rules
+loop-i-smaller : tie.Need-loop-i-smaller invariant-loop-i decreases-loop-i
+loop-i-smaller c = search rules
 
-loop-again : tie.Need-loop-preserved invariant-loop decreases-loop
-loop-again c =
+loop-i-preserved : tie.Need-loop-i-preserved invariant-loop-i decreases-loop-i
+loop-i-preserved c =
     let a = c.before.before.before.before.before.args in
-    let loop = c.before.before.before.before.loop in
+    let loop = c.before.before.before.before.loop-i in
     let p = stands a.config a.sort a.t3 in
     let told = sym (answered c.before) in
     ⊎_elim
     (λ w. (omega arith, rw (w.1, w.2) (below_joins 64 p loop.i (omega arith) (told ∙ w.0.taken) loop.invariant.1)))
     (λ w. (omega arith, rw (w.1, w.2) (below_stays 64 p loop.i (told ∙ w.0.left) loop.invariant.1)))
-    c.if1.branch
+    c.if-stands_in.branch
 
-returns : tie.Need-returns invariant-loop decreases-loop
+returns : tie.Need-returns invariant-loop-i decreases-loop-i
 returns c =
-    let e : c.before.loop.i ≡ c.before.before.args.n = omega arith in
-    rw (c.before.loop.invariant.1.0, c.before.loop.invariant.1.1, e)
+    let e : c.before.loop-i.i ≡ c.before.before.args.n = omega arith in
+    rw (c.before.loop-i.invariant.1.0, c.before.loop-i.invariant.1.1, e)
 
-pub sort-out-spec : {M : Type 1} → statement M
-sort-out-spec =
+pub sort_out_spec : {M : Type 1} → statement M
+sort_out_spec =
     tie.close
     (tie.spec
-    invariant-loop
-    decreases-loop
-    loop-holds
-    mul-o
-    array-copy-out-o
-    stands-in-requires
-    mul_at
-    array-write-at
-    add-count
-    add-i
-    loop-less
-    loop-again
+    invariant-loop-i
+    decreases-loop-i
+    loop-i-init
+    offset_bounds-records-i
+    bounds-records-i
+    stands_in-requires
+    offset_bounds-at-count
+    bounds-at-count
+    overflow_add-count
+    overflow_add-i
+    loop-i-smaller
+    loop-i-preserved
     returns)

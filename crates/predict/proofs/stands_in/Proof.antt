@@ -4,52 +4,52 @@ use mir.Facts.{to_z-of_z}
 use Rattle.predict.proofs.stands_in.Statement.{statement}
 use Rattle.predict.proofs.stands_in.Tie as tie
 
-has-maximum-requires : tie.Need-has-maximum-requires
-has-maximum-requires c κs = search rules
+has_maximum-requires : tie.Need-has_maximum-requires
+has_maximum-requires c κs = search rules
+
+both-dead-requires : tie.Need-both-dead-requires
+both-dead-requires c κs = search rules
+
+enum_told-1 : tie.Need-enum_told-1
+enum_told-1 c = search rules
 
 both-requires : tie.Need-both-requires
 both-requires c κs = search rules
 
-enum_told : tie.Need-enum-told
-enum_told c = search rules
+enum_told-in-Initializing : tie.Need-enum_told-in-Initializing
+enum_told-in-Initializing c = search rules
 
-both-requires-2 : tie.Need-both-requires-2
-both-requires-2 c κs = search rules
+enum_told-in-Dead : tie.Need-enum_told-in-Dead
+enum_told-in-Dead c = search rules
 
-enum-told-2 : tie.Need-enum-told-2
-enum-told-2 c = search rules
-
-enum-told-3 : tie.Need-enum-told-3
-enum-told-3 c = search rules
-
-returns : tie.Need-returns
-returns c =
+returns-in-Alive : tie.Need-returns-in-Alive
+returns-in-Alive c =
     let told = c.before.before in
-    rw (c.both2.ensures, to_z-of_z (record { sfits = told.struct-told2.given.1.0.1 }), told.before.before.enum_told.given.1)
+    rw (c.both.ensures, to_z-of_z (record { sfits = told.struct_told-in-Alive-1.given.1.0.1 }), told.before.before.enum_told-1.given.1)
 
-returns-2 : tie.Need-returns-2
-returns-2 c = rw c.enum-told2.given.1
+returns-in-Initializing : tie.Need-returns-in-Initializing
+returns-in-Initializing c = rw c.enum_told-in-Initializing-1.given.1
 
-returns-3 : tie.Need-returns-3
-returns-3 c =
+returns-in-Dead : tie.Need-returns-in-Dead
+returns-in-Dead c =
     let dead = c.before.before in
     rw (
-      dead.both.ensures,
-      to_z-of_z (record { sfits = dead.before.before.struct_told.given.1.0.1 }),
-      dead.before.has-maximum.ensures,
-      c.enum-told3.given.1,
+      dead.both-dead.ensures,
+      to_z-of_z (record { sfits = dead.before.before.struct_told-1.given.1.0.1 }),
+      dead.before.has_maximum.ensures,
+      c.enum_told-in-Dead-1.given.1,
     )
 
-pub stands-in-spec : {M : Type 1} → statement M
-stands-in-spec =
+pub stands_in_spec : {M : Type 1} → statement M
+stands_in_spec =
     tie.close
     (tie.spec
-    has-maximum-requires
+    has_maximum-requires
+    both-dead-requires
+    enum_told-1
     both-requires
-    enum_told
-    both-requires-2
-    enum-told-2
-    enum-told-3
-    returns
-    returns-2
-    returns-3)
+    enum_told-in-Initializing
+    enum_told-in-Dead
+    returns-in-Alive
+    returns-in-Initializing
+    returns-in-Dead)

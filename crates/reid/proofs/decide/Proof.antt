@@ -4,29 +4,29 @@ use Rattle.reid.proofs.Places.{matrix_fits, picks_bounded, places-merges}
 use Rattle.reid.proofs.decide.Statement.{statement}
 use Rattle.reid.proofs.decide.Tie as tie
 
-abbrev given : tie.After-candidates-met → tie.Start
+abbrev given : tie.After-candidates_met-rows → tie.Start
 given r = r.before.before.before.before.before.before
 
-candidates-met-requires : tie.Need-candidates-met-requires
-candidates-met-requires c κs = search rules
+candidates_met-rows-requires : tie.Need-candidates_met-rows-requires
+candidates_met-rows-requires c κs = search rules
 
-match-detections-and-objects-requires : tie.Need-match-detections-and-objects-requires
-match-detections-and-objects-requires c κs =
+match_detections_and_objects-picks-requires : tie.Need-match_detections_and_objects-picks-requires
+match_detections_and_objects-picks-requires c κs =
     let s = given c in
-    matrix_fits s.args.t s.args.distances.now s.pre.0 c.candidates-met.ensures
+    matrix_fits s.args.t s.args.distances.now s.pre.0 c.candidates_met-rows.ensures
 
-places-of-requires : tie.Need-places-of-requires
-places-of-requires c κs =
+places_of-requires : tie.Need-places_of-requires
+places_of-requires c κs =
     let r = c.before in
     let s = given r in
-    let n = picks_bounded s.args.t s.args.distances.now s.pre.0 r.candidates-met.ensures c.match-detections-and-objects.ensures in
+    let n = picks_bounded s.args.t s.args.distances.now s.pre.0 r.candidates_met-rows.ensures c.match_detections_and_objects-picks.ensures in
     (n.few, n.rows, n.cols)
 
 returns : tie.Need-returns
 returns c =
     let r = c.before.before in
     let s = given r in
-    places-merges s.args.t s.args.distances.now s.pre.0 r.candidates-met.ensures c.before.match-detections-and-objects.ensures c.places_of.ensures
+    places-merges s.args.t s.args.distances.now s.pre.0 r.candidates_met-rows.ensures c.before.match_detections_and_objects-picks.ensures c.places_of.ensures
 
-pub decide-spec : {M : Type 1} → statement M
-decide-spec = tie.close (tie.spec candidates-met-requires match-detections-and-objects-requires places-of-requires returns)
+pub decide_spec : {M : Type 1} → statement M
+decide_spec = tie.close (tie.spec candidates_met-rows-requires match_detections_and_objects-picks-requires places_of-requires returns)

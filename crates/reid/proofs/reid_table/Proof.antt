@@ -6,36 +6,36 @@ use Rattle.reid.proofs.Composing.{floats-room, count-after, records-after, float
 use Rattle.reid.proofs.reid_table.Statement.{statement}
 use Rattle.reid.proofs.reid_table.Tie as tie
 
-abbrev given : tie.After-decide → tie.Start
+abbrev given : tie.After-decide-places → tie.Start
 given d = d.before.before.before.before.before.before
 
-decide-requires : tie.Need-decide-requires
-decide-requires c κs = search rules
+decide-places-requires : tie.Need-decide-places-requires
+decide-places-requires c κs = search rules
 
-merge-each-requires : tie.Need-merge-each-requires
-merge-each-requires c κs =
+merge_each-merged-requires : tie.Need-merge_each-merged-requires
+merge_each-merged-requires c κs =
     let d = c.before in
     let p = (given d).requires in
-    let n = merges_bounded (given d).args.t (given d).args.distances.now p.meets d.decide.ensures in
+    let n = merges_bounded (given d).args.t (given d).args.distances.now p.meets d.decide-places.ensures in
     (p.sizes, p.fit, p.room, p.ranges, n.few, n.rows, n.cols)
 
-drop-absorbed-requires : tie.Need-drop-absorbed-requires
-drop-absorbed-requires c κs =
+drop_absorbed-kept-requires : tie.Need-drop_absorbed-kept-requires
+drop_absorbed-kept-requires c κs =
     let m = c.before.before.before in
     let d = m.before.before in
     let a = (given d).args in
     let p = (given d).requires in (
       p.sizes,
       p.fit,
-      floats-room a.t a.s.now a.distances.now p d.decide.ensures m.merge-each.ensures.0 m.merge-each.ensures.1,
-      (merges_bounded a.t a.distances.now p.meets d.decide.ensures).few,
+      floats-room a.t a.s-1.now a.distances.now p d.decide-places.ensures m.merge_each-merged.ensures.0 m.merge_each-merged.ensures.1,
+      (merges_bounded a.t a.distances.now p.meets d.decide-places.ensures).few,
     )
 
-no-lists-requires : tie.Need-no-lists-requires
-no-lists-requires c κs = search rules
+no_lists-lists-requires : tie.Need-no_lists-lists-requires
+no_lists-lists-requires c κs = search rules
 
-same_length : tie.Need-same-length
-same_length c = search rules
+shape_of-s : tie.Need-shape_of-s
+shape_of-s c = search rules
 
 returns : tie.Need-returns
 unfolding reid_table
@@ -44,23 +44,23 @@ returns c =
     let m = k.before.before.before.before in
     let d = m.before.before in
     let a = (given d).args in
-    let e = m.merge-each.ensures in
-    let kept = k.drop-absorbed.ensures in (
+    let e = m.merge_each-merged.ensures in
+    let kept = k.drop_absorbed-kept.ensures in (
       rw (
-        records-after a.t a.s.now a.distances.now (given d).requires d.decide.ensures e.0 e.1 kept.0 kept.1,
-        count-after a.t a.s.now a.distances.now (given d).requires d.decide.ensures e.0 e.1 kept.0 kept.1,
-        c.no-lists.ensures,
+        records-after a.t a.s-1.now a.distances.now (given d).requires d.decide-places.ensures e.0 e.1 kept.0 kept.1,
+        count-after a.t a.s-1.now a.distances.now (given d).requires d.decide-places.ensures e.0 e.1 kept.0 kept.1,
+        c.no_lists-lists.ensures,
       ),
-      floats-after a.t a.s.now a.distances.now (given d).requires d.decide.ensures e.0 e.1 kept.0 kept.1,
+      floats-after a.t a.s-1.now a.distances.now (given d).requires d.decide-places.ensures e.0 e.1 kept.0 kept.1,
     )
 
-pub reid-table-spec : {M : Type 1} → statement M
-reid-table-spec =
+pub reid_table_spec : {M : Type 1} → statement M
+reid_table_spec =
     tie.close
     (tie.spec
-    decide-requires
-    merge-each-requires
-    drop-absorbed-requires
-    no-lists-requires
-    same_length
+    decide-places-requires
+    merge_each-merged-requires
+    drop_absorbed-kept-requires
+    no_lists-lists-requires
+    shape_of-s
     returns)

@@ -11,26 +11,26 @@ use Rattle.tracker.specs.Calls.{count_of, current_answer}
 use Rattle.tracker.proofs.current_object_count.Statement.{statement}
 use Rattle.tracker.proofs.current_object_count.Tie as tie
 
-is-whole-requires : tie.Need-is-whole-requires
-is-whole-requires c κs = search rules
+is_whole-requires : tie.Need-is_whole-requires
+is_whole-requires c κs = search rules
+
+returns-then-not-is_whole : tie.Need-returns-then-not-is_whole
+unfolding current_answer first_due
+returns-then-not-is_whole c =
+    let e : whole_table c.before.before.before.before.args.t ≡ false = sym c.before.is_whole.ensures ∙ not-true _ c.if-not-is_whole.true-raw in
+    rw e
+
+whole : (c : tie.Else-not-is_whole) → whole_table c.before.before.before.before.args.t ≡ true
+whole c = sym c.before.is_whole.ensures ∙ not-false _ c.if-not-is_whole.false-raw
+
+active_count-active-requires : tie.Need-active_count-active-requires
+active_count-active-requires c κs =
+    let f = whole_facts c.before.before.before.before.args.t (whole c) in
+    omega (arith, f.counts-1.records-1, f.settings.capacity.1)
 
 returns : tie.Need-returns
 unfolding current_answer first_due
-returns c =
-    let e : whole_table c.before.before.before.before.args.t ≡ false = sym c.before.is_whole.ensures ∙ not-true _ c.if1.true in
-    rw e
+returns c = rw (whole c.before) (ap (count_of 0) c.active_count-active.ensures)
 
-whole : (c : tie.Else1) → whole_table c.before.before.before.before.args.t ≡ true
-whole c = sym c.before.is_whole.ensures ∙ not-false _ c.if1.false
-
-active-count-requires : tie.Need-active-count-requires
-active-count-requires c κs =
-    let f = whole_facts c.before.before.before.before.args.t (whole c) in
-    omega (arith, f.counts.records, f.settings.capacity.1)
-
-returns-2 : tie.Need-returns-2
-unfolding current_answer first_due
-returns-2 c = rw (whole c.before) (ap (count_of 0) c.active-count.ensures)
-
-pub current-object-count-spec : {M : Type 1} → statement M
-current-object-count-spec = tie.close (tie.spec is-whole-requires returns active-count-requires returns-2)
+pub current_object_count_spec : {M : Type 1} → statement M
+current_object_count_spec = tie.close (tie.spec is_whole-requires returns-then-not-is_whole active_count-active-requires returns)

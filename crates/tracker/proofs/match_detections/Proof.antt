@@ -184,14 +184,14 @@ module _ {M : Type 1} {𝓤 : Ura M} (𝓛 : Logic 𝓤) (mem : Memory → SProp
   fields m = valss (fields-of M'.the_type) (LL.spells (M'.the_type).parts M''.the_laws) ((M'.the_type).to m)
 
   abbrev to-put-pairs : Matched → (PutPairs 𝓛 mem run).Ghost
-  to-put-pairs m = (((κ, tt), (q, tt), tt, (y, (m.pairs, (m.count, tt))), (mut_slice_vals y, ((fields m).0, ((fields m).1.0, tt)))), tt)
+  to-put-pairs m = (((κ, tt), (q, tt), tt, (y, (m.pairs-1, (m.count, tt))), (mut_slice_vals y, ((fields m).0, ((fields m).1.0, tt)))), tt)
 
   goes-put-pairs : (m : Matched) → Is M'.the_row m (LL.vals M'.the_type M''.the_laws m) → (m.count ≤ 32) × (m.count ≤ n)
       → ent 𝓤 (sep 𝓤 (sem 𝓛 list) (A.lft κ q)) ((PutPairs 𝓛 mem run).pre (to-put-pairs m))
   goes-put-pairs m is few =
       let owed = LL.owed M'.the_type M''.the_laws m _ is in
       qed 𝓛 (‵ list ∷ ‵ (flft κ q) ∷ []) ∵ says ! few $ nothing ! $ move ! (2 ∷ 0 ∷ []) $ join ! $ frame ! $
-      nothing ! $ owned ! usize (Is usize) (uint_Makes 𝓛 w64) m.count _ owed.1.0 $ fjoin ! $ owned ! Ps (Is Ps) (Array-Makes 𝓛 P (makes 𝓛) 32) m.pairs _ (from_field 32 m.pairs _ owed.0) $ fjoin ! $ move ! (1 ∷ 0 ∷ []) $ fjoin ! $ done !
+      nothing ! $ owned ! usize (Is usize) (uint_Makes 𝓛 w64) m.count _ owed.1.0 $ fjoin ! $ owned ! Ps (Is Ps) (Array-Makes 𝓛 P (makes 𝓛) 32) m.pairs-1 _ (from_field 32 m.pairs-1 _ owed.0) $ fjoin ! $ move ! (1 ∷ 0 ∷ []) $ fjoin ! $ done !
 
   abbrev to-answer-of : Matched → (AnswerOf 𝓛 mem run).Ghost
   to-answer-of m = ((tt, tt, tt, (m, tt), (LL.vals M'.the_type M''.the_laws m, tt)), tt)
@@ -201,7 +201,7 @@ module _ {M : Type 1} {𝓤 : Ura M} (𝓛 : Logic 𝓤) (mem : Memory → SProp
       qed 𝓛 (‵ ftrue ∷ []) ∵ nothing ! $ owned ! M'.the_row (Is M'.the_row) (LL.makes M'.the_type M''.the_plain 𝓛) m _ is $ fjoin ! $ nothing ! $ group ! 2 $ group ! 2 $ done !
 
   -- what the walk has at the end
-  exits : (m : Matched) (r : Answer) (w : Val) (zs : List Float) (ws : List Pair) → m ≡ passed a matched n → r ≡ answer_from m → zs ≡ passed a matched_floats n → ws ≡ take m.count m.pairs ++ drop m.count y.now
+  exits : (m : Matched) (r : Answer) (w : Val) (zs : List Float) (ws : List Pair) → m ≡ passed a matched n → r ≡ answer_from m → zs ≡ passed a matched_floats n → ws ≡ take m.count m.pairs-1 ++ drop m.count y.now
       → length zs ≡ length (storage a).now → length ws ≡ n
       → ent 𝓤 (⋆ 𝓛 (alive 𝓤 5 (five κs) (five qs) ∷ alive 𝓤 1 (κ, tt) (q, tt) ∷ ‵ (finally f64 (storage a).ghost_name zs) ∷ ‵ (finally P y.ghost_name ws) ∷ ‵ ((R.the_row).own_val r (w ∷ [])) ∷ [])) (Walked.post bound w)
   exits m r w zs ws e₁ e₂ e₃ e₄ l₁ l₂ =
@@ -213,7 +213,7 @@ module _ {M : Type 1} {𝓤 : Ura M} (𝓛 : Logic 𝓤) (mem : Memory → SProp
       nothing ! $ nothing ! $ nothing ! $ nothing ! $ nothing ! $ nothing ! $ nothing ! $ nothing ! $ move ! (0 ∷ 9 ∷ 1 ∷ 2 ∷ 3 ∷ 4 ∷ 5 ∷ 6 ∷ 10 ∷ 7 ∷ []) $ group ! 10 $ move ! (1 ∷ []) $ group ! 3 $ frame ! $
       use0 𝓛 (raw (fact 𝓤 (r ≡ passed a match_answer n))) (fact_i 𝓤 _ (emp 𝓤) (e₂ ∙ ap answer_from e₁ ∙ passed a answer_is n)) $ frame ! $
       use0 𝓛 (raw (fact 𝓤 (zs ≡ passed a matched_floats n))) (fact_i 𝓤 _ (emp 𝓤) e₃) $ frame ! $
-      use0 𝓛 (raw (fact 𝓤 (ws ≡ passed a match_pairs y.now))) (fact_i 𝓤 _ (emp 𝓤) (e₄ ∙ ap (λ (m' : Matched). take m'.count m'.pairs ++ drop m'.count y.now) e₁ ∙ passed a pairs_are y.now)) $ done !
+      use0 𝓛 (raw (fact 𝓤 (ws ≡ passed a match_pairs y.now))) (fact_i 𝓤 _ (emp 𝓤) (e₄ ∙ ap (λ (m' : Matched). take m'.count m'.pairs-1 ++ drop m'.count y.now) e₁ ∙ passed a pairs_are y.now)) $ done !
 
   module _ (C : Calls 𝓤 H) (Λ : Loops 𝓤 H) (fm : FmC 𝓤 H 𝓛.laws C) (known-core : Triple 𝓤 (C #matching-step·stepping·match-table) (Core 𝓛 mem run))
       (known-put : Triple 𝓤 (C #pairs·put-pairs) (PutPairs 𝓛 mem run)) (known-answer : Triple 𝓤 (C #tracker·answer-of) (AnswerOf 𝓛 mem run))
@@ -248,8 +248,8 @@ module _ {M : Type 1} {𝓤 : Ura M} (𝓛 : Logic 𝓤) (mem : Memory → SProp
         calls_at ! fm (PutPairs 𝓛 mem run) known-put (to-put-pairs m)
         (and_then ! (load ! (from ! (stop !)) (look ! 3 refl)) (and_then ! (load ! (from ! (fld ! {τ = array} {d = 0} refl (stop !))) (look_in ! 15 (sub ! {τs = parts table} 0 {τ = array} {d = 0} refl (whole !)))) (and_then ! (load ! (from ! (fld ! {τ = ty_int w64} {d = 768} refl (stop !))) (look_in ! 15 (sub ! {τs = parts table} 1 {τ = ty_int w64} {d = 768} refl (whole !)))) (no_more !)))) (λ w'.
         use1 𝓛 (later (some (λ (u : Unit {0}). (alive 𝓤 1 (κ, tt) (q, tt) ⊛ ‵ (unit.own_val u (w' ∷ []))) ⊛ raw (ensured 𝓛 put-pairs.ended (put-pairs.clauses 𝓛 mem run) (κ, tt) (to-put-pairs m).0.3 tt u)))) (id⊢ 𝓤 _) $ await ! tt $ pick ! (λ u.
-        split ! $ move ! (1 ∷ []) $ use1 𝓛 (some (λ (ws : Lasts put-pairs.ended (κ, tt) (to-put-pairs m).0.3). ‵ (lasts put-pairs.ended (κ, tt) (to-put-pairs m).0.3 ws) ⊛ raw (fact 𝓤 (ws.0 ≡ take m.count m.pairs ++ drop m.count y.now)))) (id⊢ 𝓤 _) $ pick ! (λ ws.
-        split ! $ move ! (1 ∷ []) $ heard ! (ws.0 ≡ take m.count m.pairs ++ drop m.count y.now) (λ e₄. fsplit ! $ fsplit ! $ move ! (1 ∷ 2 ∷ []) $ feq_l ! (λ l₂. dropped ! $
+        split ! $ move ! (1 ∷ []) $ use1 𝓛 (some (λ (ws : Lasts put-pairs.ended (κ, tt) (to-put-pairs m).0.3). ‵ (lasts put-pairs.ended (κ, tt) (to-put-pairs m).0.3 ws) ⊛ raw (fact 𝓤 (ws.0 ≡ take m.count m.pairs-1 ++ drop m.count y.now)))) (id⊢ 𝓤 _) $ pick ! (λ ws.
+        split ! $ move ! (1 ∷ []) $ heard ! (ws.0 ≡ take m.count m.pairs-1 ++ drop m.count y.now) (λ e₄. fsplit ! $ fsplit ! $ move ! (1 ∷ 2 ∷ []) $ feq_l ! (λ l₂. dropped ! $
         move ! (1 ∷ []) $ split ! $ move ! (1 ∷ []) $ facts ! unit (Is unit) (shows 𝓛 unit) u (w' ∷ []) (λ none. land ! (from ! (stop !)) (init ! 8 refl ((Nothing-Lawful 𝓛).typed u _ none).0) $
         -- [its token; the last pairs; five tokens; the last floats; _16; …]
         nothing ! $ use1 𝓛 (raw ((AnswerOf 𝓛 mem run).pre (to-answer-of m))) (goes-answer-of m is') $ calls_at ! fm (AnswerOf 𝓛 mem run) known-answer (to-answer-of m) (and_then ! (load ! (from ! (stop !)) (look ! 17 refl)) (no_more !)) (λ v.
@@ -299,9 +299,9 @@ module _ {M : Type 1} {𝓤 : Ura M} (𝓛 : Logic 𝓤) (mem : Memory → SProp
   )
       (call.clauses 𝓛 mem run) (WpFn 𝓤 H 𝓣.C 𝓣.Λ code.function) (WpFn-mono 𝓤 H 𝓛.laws 𝓣 code.function) walks
 
-pub match-detections-spec : {M : Type 1} → stated.statement M
+pub match_detections_spec : {M : Type 1} → stated.statement M
 unfolding code.routine tables_of
-match-detections-spec 𝓤 𝓛 𝓜 𝓡 =
+match_detections_spec 𝓤 𝓛 𝓜 𝓡 =
     entered 𝓤 𝓛.H (triple_of 𝓛 call.signature (call.spec 𝓛 𝓜.mem 𝓡.run))
     (tables 𝓤 𝓛.H 𝓜 𝓡 code.env).C (tables 𝓤 𝓛.H 𝓜 𝓡 code.env).Λ #tracker·match-detections code.function (code.unfolded 𝓤 𝓛.H 𝓜 𝓡)
     (meets 𝓛 𝓜.mem 𝓡.run (tables_of 𝓤 𝓛.H 𝓜 (tables 𝓤 𝓛.H 𝓜 𝓡 code.env))

@@ -10,36 +10,36 @@ use Rattle.tracker.proofs.Readiness.{ready}
 use Rattle.tracker.proofs.predict.Statement.{statement}
 use Rattle.tracker.proofs.predict.Tie as tie
 
-predict-refusal-requires : tie.Need-predict-refusal-requires
-predict-refusal-requires c κs = search rules
+predict_refusal-due-requires : tie.Need-predict_refusal-due-requires
+predict_refusal-due-requires c κs = search rules
+
+returns-then-due-ne0 : tie.Need-returns-then-due-ne0
+unfolding predict_answer predict_storage
+returns-then-due-ne0 c =
+    let s = c.before.before.before.args in
+    let call = c.before.predict_refusal-due in
+    let e = ne_eqb (first_due (predict_checks s.t (length s.storage-1.now))) 0 (λ z. omega (arith, c.if-due-ne0.true, call.ensures, z)) in
+    (rw (call.ensures, e), rw e)
+
+none-due : (c : tie.Else-due-ne0) → let a = c.before.before.before.args in first_due (predict_checks a.t (length a.storage-1.now)) ≡ 0
+none-due c = omega (arith, c.before.predict_refusal-due.ensures, c.if-due-ne0.false)
+
+predict_table-stepped-requires : tie.Need-predict_table-stepped-requires
+predict_table-stepped-requires c κs =
+    let s = c.before.before.before.before in
+    let all : length s.args.t.records ≡ 64 = simp length-map at s.well_formed.0.1.1.0.1.0.1 in
+    ready s.args.t (length s.args.storage.now) all (none-due c.before)
+
+shape_of-storage : tie.Need-shape_of-storage
+shape_of-storage c = search rules
 
 returns : tie.Need-returns
 unfolding predict_answer predict_storage
 returns c =
-    let s = c.before.before.before.args in
-    let call = c.before.predict-refusal in
-    let e = ne_eqb (first_due (predict_checks s.t (length s.storage.now))) 0 (λ z. omega (arith, c.if1.true, call.ensures, z)) in
-    (rw (call.ensures, e), rw e)
-
-none-due : (c : tie.Else1) → let a = c.before.before.before.args in first_due (predict_checks a.t (length a.storage.now)) ≡ 0
-none-due c = omega (arith, c.before.predict-refusal.ensures, c.if1.false)
-
-predict-table-requires : tie.Need-predict-table-requires
-predict-table-requires c κs =
-    let s = c.before.before.before.before in
-    let all : length s.args.t.records ≡ 64 = simp length-map at s.well-formed.0.1.1.0.1.0.1 in
-    ready s.args.t (length s.args.storage.now) all (none-due c.before)
-
-same_length : tie.Need-same-length
-same_length c = search rules
-
-returns-2 : tie.Need-returns-2
-unfolding predict_answer predict_storage
-returns-2 c =
-    let call = c.before.before.predict-table in
+    let call = c.before.before.predict_table-stepped in
     let none = c.before.before.before.before in
     let e = none-due none in
-    (rw (none.before.predict-refusal.ensures, e, call.ensures.0), rw e call.ensures.1)
+    (rw (none.before.predict_refusal-due.ensures, e, call.ensures.0), rw e call.ensures.1)
 
-pub predict-spec : {M : Type 1} → statement M
-predict-spec = tie.close (tie.spec predict-refusal-requires returns predict-table-requires same_length returns-2)
+pub predict_spec : {M : Type 1} → statement M
+predict_spec = tie.close (tie.spec predict_refusal-due-requires returns-then-due-ne0 predict_table-stepped-requires shape_of-storage returns)

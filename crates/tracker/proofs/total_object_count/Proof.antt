@@ -11,27 +11,27 @@ use Rattle.tracker.specs.Calls.{total_answer}
 use Rattle.tracker.proofs.total_object_count.Statement.{statement}
 use Rattle.tracker.proofs.total_object_count.Tie as tie
 
-is-whole-requires : tie.Need-is-whole-requires
-is-whole-requires c κs = search rules
+is_whole-requires : tie.Need-is_whole-requires
+is_whole-requires c κs = search rules
+
+returns-then-not-is_whole : tie.Need-returns-then-not-is_whole
+unfolding total_answer first_due
+returns-then-not-is_whole c =
+    let e : whole_table c.before.before.before.args.t ≡ false = sym c.before.is_whole.ensures ∙ not-true _ c.if-not-is_whole.true-raw in
+    rw e
+
+whole : (c : tie.Else-not-is_whole) → whole_table c.before.before.before.args.t ≡ true
+whole c = sym c.before.is_whole.ensures ∙ not-false _ c.if-not-is_whole.false-raw
+
+overflow_sub-issued : tie.Need-overflow_sub-issued
+overflow_sub-issued c = omega (arith, (whole_facts c.before.before.before.before.args.t (whole c.before)).counts-1)
+
+overflow_cast-issued : tie.Need-overflow_cast-issued
+overflow_cast-issued c = record { fits = omega (arith, (whole_facts c.before.before.before.before.args.t (whole c.before)).counts-1) }
 
 returns : tie.Need-returns
 unfolding total_answer first_due
-returns c =
-    let e : whole_table c.before.before.before.args.t ≡ false = sym c.before.is_whole.ensures ∙ not-true _ c.if1.true in
-    rw e
+returns c = rw (whole c.before)
 
-whole : (c : tie.Else1) → whole_table c.before.before.before.args.t ≡ true
-whole c = sym c.before.is_whole.ensures ∙ not-false _ c.if1.false
-
-sub-issued : tie.Need-overflow-sub-issued
-sub-issued c = omega (arith, (whole_facts c.before.before.before.before.args.t (whole c.before)).counts)
-
-cast-issued : tie.Need-overflow-cast-issued
-cast-issued c = record { fits = omega (arith, (whole_facts c.before.before.before.before.args.t (whole c.before)).counts) }
-
-returns-2 : tie.Need-returns-2
-unfolding total_answer first_due
-returns-2 c = rw (whole c.before)
-
-pub total-object-count-spec : {M : Type 1} → statement M
-total-object-count-spec = tie.close (tie.spec is-whole-requires returns sub-issued cast-issued returns-2)
+pub total_object_count_spec : {M : Type 1} → statement M
+total_object_count_spec = tie.close (tie.spec is_whole-requires returns-then-not-is_whole overflow_sub-issued overflow_cast-issued returns)

@@ -8,49 +8,49 @@ use Rattle.matching_step.proofs.Lending.{Lending, Parted, block_inside, points_i
 use Rattle.matching_step.proofs.changing.hit_at.Statement.{statement}
 use Rattle.matching_step.proofs.changing.hit_at.Tie as tie
 
-abbrev given : tie.After-layout-of → tie.Start
+abbrev given : tie.After-layout_of-at → tie.Start
 given l = l.before.before.before.before.before
 
-lends : (l : tie.After-layout-of)
+lends : (l : tie.After-layout_of-at)
     → let a = (given l).args in
-    Lending a.config l.layout_of.result (frame a.period a.points.now a.scores.now a.has-scores.now []) a.s.now a.k a.d
-lends l = let p = (given l).requires in record { layout = l.layout_of.ensures; fits = p.0; few = p.1; room = p.3 }
+    Lending a.config l.layout_of-at.result (frame a.period a.points.now a.scores.now a.has_scores.now []) a.s-1.now a.k a.d
+lends l = let p = (given l).requires in record { layout = l.layout_of-at.ensures; fits = p.0; few = p.1; room = p.3 }
 
-abbrev laid : tie.After-part-of2 → tie.After-layout-of
+abbrev laid : tie.After-part_of-marks → tie.After-layout_of-at
 laid p = p.before.before.before.before
 
-parted : (p : tie.After-part-of2) → Parted (lends (laid p)) p.before.part_of.result.now p.part-of2.result.now
-parted p = record { own = p.before.part_of.ensures; marks = p.part-of2.ensures }
+parted : (p : tie.After-part_of-marks) → Parted (lends (laid p)) p.before.part_of-own.result.now p.part_of-marks.result.now
+parted p = record { own = p.before.part_of-own.ensures; marks = p.part_of-marks.ensures }
 
-layout-of-requires : tie.Need-layout-of-requires
-layout-of-requires c κs = c.before.before.before.before.requires.0.sizes
+layout_of-at-requires : tie.Need-layout_of-at-requires
+layout_of-at-requires c κs = c.before.before.before.before.requires.0.sizes
 
-mul-start : tie.Need-overflow-mul-start
-mul-start c = record { fits = omega (arith, block_inside (lends c.before), (given c.before).well-formed) }
+overflow_mul-start : tie.Need-overflow_mul-start
+overflow_mul-start c = record { fits = omega (arith, block_inside (lends c.before), (given c.before).well_formed) }
 
-add-end : tie.Need-overflow-add-end
-add-end c = record { fits = omega (arith, block_inside (lends c.before.before), (given c.before.before).well-formed) }
+overflow_add-end : tie.Need-overflow_add-end
+overflow_add-end c = record { fits = omega (arith, block_inside (lends c.before.before), (given c.before.before).well_formed) }
 
-part-of-requires : tie.Need-part-of-requires
-part-of-requires c κs = points_inside (lends c.before.before)
+part_of-own-requires : tie.Need-part_of-own-requires
+part_of-own-requires c κs = points_inside (lends c.before.before)
 
-part-of-requires-2 : tie.Need-part-of-requires-2
-part-of-requires-2 c κs = scores_inside (lends c.before.before.before)
+part_of-marks-requires : tie.Need-part_of-marks-requires
+part_of-marks-requires c κs = scores_inside (lends c.before.before.before)
 
-shared-slice-read-has : tie.Need-shared-slice-read-has
-shared-slice-read-has c = search rules
+bounds-has_scores-d : tie.Need-bounds-has_scores-d
+bounds-has_scores-d c = search rules
 
-mul-hit : tie.Need-overflow-mul-hit
-mul-hit c = record { fits = omega (arith, block_inside (lends (laid c.before)), (given (laid c.before)).well-formed) }
+offset_bounds-s-start : tie.Need-offset_bounds-s-start
+offset_bounds-s-start c = record { fits = omega (arith, block_inside (lends (laid c.before)), (given (laid c.before)).well_formed) }
 
-sub-hit : tie.Need-overflow-sub-hit
-sub-hit c = search rules
+slice_bounds-hit-count : tie.Need-slice_bounds-hit-count
+slice_bounds-hit-count c = search rules
 
-part-hit-start : tie.Need-slice-bounds-hit-start
-part-hit-start c = search rules
+slice_bounds-hit-start : tie.Need-slice_bounds-hit-start
+slice_bounds-hit-start c = search rules
 
-part-hit-end : tie.Need-slice-bounds-hit-end
-part-hit-end c = block_inside (lends (laid c.before))
+slice_bounds-hit-end : tie.Need-slice_bounds-hit-end
+slice_bounds-hit-end c = block_inside (lends (laid c.before))
 
 hit-requires : tie.Need-hit-requires
 hit-requires c κs =
@@ -58,32 +58,32 @@ hit-requires c κs =
     let pre = (given (laid p)).requires in
     (pre.0.sizes, pre.2, points_long (parted p), scores_long (parted p), pre.0.period, block_long (lends (laid p)))
 
-same_length : tie.Need-same-length
-same_length c = search rules
+shape_of-s : tie.Need-shape_of-s
+shape_of-s c = search rules
 
 returns : tie.Need-returns
 returns c =
     let called = c.before.before in
     let p = called.before.before.before in
     let a = (given (laid p)).args in (
-      by_detection (parted p) (λ x. changed_by_hit a.config x a.period a.distance a.next-id a.o) called.«hit».ensures.0,
-      block_back (parted p) (λ x. block_hit a.config x a.o.past_count) c.before.s.given.0 called.«hit».ensures.1,
+      by_detection (parted p) (λ x. changed_by_hit a.config x a.period a.distance a.next_id a.o) called.«hit».ensures.0,
+      block_back (parted p) (λ x. block_hit a.config x a.o.past_count) c.before.s-1.given.0 called.«hit».ensures.1,
     )
 
-pub hit-at-spec : {M : Type 1} → statement M
-hit-at-spec =
+pub hit_at_spec : {M : Type 1} → statement M
+hit_at_spec =
     tie.close
     (tie.spec
-    layout-of-requires
-    mul-start
-    add-end
-    part-of-requires
-    part-of-requires-2
-    shared-slice-read-has
-    mul-hit
-    sub-hit
-    part-hit-start
-    part-hit-end
+    layout_of-at-requires
+    overflow_mul-start
+    overflow_add-end
+    part_of-own-requires
+    part_of-marks-requires
+    bounds-has_scores-d
+    offset_bounds-s-start
+    slice_bounds-hit-count
+    slice_bounds-hit-start
+    slice_bounds-hit-end
     hit-requires
-    same_length
+    shape_of-s
     returns)

@@ -13,149 +13,149 @@ use Rattle.matching_step.proofs.Lending.{fits_without}
 use Rattle.matching_step.proofs.changing.hit_each.Statement.{statement}
 use Rattle.matching_step.proofs.changing.hit_each.Tie as tie
 
-abbrev invariant-loop : tie.invariant-loop
-invariant-loop config counts₀ s₀ points scores has-scores distances period picks records₀ n rows cols i₀ counts s records i =
+abbrev invariant-loop-i : tie.invariant-loop-i
+invariant-loop-i config counts₀ s₀ points scores has-scores distances period picks records₀ n rows cols i₀ counts s records i =
     (i ≤ picks.count) × Put config records₀ s₀ (passed config (frame period points scores has-scores distances) picks counts₀ records₀ s₀ i) records counts s
 
-abbrev decreases-loop : tie.decreases-loop
-decreases-loop config counts₀ s₀ points scores has-scores distances period picks records₀ n rows cols i₀ counts s records i = picks.count - i
+abbrev decreases-loop-i : tie.decreases-loop-i
+decreases-loop-i config counts₀ s₀ points scores has-scores distances period picks records₀ n rows cols i₀ counts s records i = picks.count - i
 
-abbrev given : tie.After-cols invariant-loop decreases-loop → tie.Start invariant-loop decreases-loop
+abbrev given : tie.After-cols-1 invariant-loop-i decreases-loop-i → tie.Start invariant-loop-i decreases-loop-i
 given e = e.before.before.before.before.before.before.before
 
-abbrev lent : tie.Start invariant-loop decreases-loop → Frame
-lent b = let a = b.args in frame a.period a.points.now a.scores.now a.has-scores.now a.distances.now
+abbrev lent : tie.Start invariant-loop-i decreases-loop-i → Frame
+lent b = let a = b.args in frame a.period a.points.now a.scores.now a.has_scores.now a.distances.now
 
-passing : (b : tie.Start invariant-loop decreases-loop) → let a = b.args in Passing a.config (lent b) a.picks a.counts a.t2 a.s.now
+passing : (b : tie.Start invariant-loop-i decreases-loop-i) → let a = b.args in Passing a.config (lent b) a.picks a.counts a.t2 a.s-1.now
 passing b =
     let p = b.requires in
-    record { fits = p.0; holding = p.1; all = b.well-formed.1.0.1.0.1; rows = p.4; cols = p.5 }
+    record { fits = p.0; holding = p.1; all = b.well_formed.1.0.1.0.1; rows = p.4; cols = p.5 }
 
-loop-holds : tie.Need-loop-init invariant-loop decreases-loop
-loop-holds c = (search rules, put_first (passing (given c)))
+loop-i-init : tie.Need-loop-i-init invariant-loop-i decreases-loop-i
+loop-i-init c = (search rules, put_first (passing (given c)))
 
-mul-d : tie.Need-overflow-mul-d invariant-loop decreases-loop
-mul-d c = search rules
+offset_bounds-rows-i : tie.Need-offset_bounds-rows-i invariant-loop-i decreases-loop-i
+offset_bounds-rows-i c = search rules
 
-array-read-d : tie.Need-array-read-d invariant-loop decreases-loop
-array-read-d c = search rules
+bounds-rows-i : tie.Need-bounds-rows-i invariant-loop-i decreases-loop-i
+bounds-rows-i c = search rules
 
-mul-k : tie.Need-overflow-mul-k invariant-loop decreases-loop
-mul-k c = search rules
+offset_bounds-cols-i : tie.Need-offset_bounds-cols-i invariant-loop-i decreases-loop-i
+offset_bounds-cols-i c = search rules
 
-array-read-k : tie.Need-array-read-k invariant-loop decreases-loop
-array-read-k c = search rules
+bounds-cols-i : tie.Need-bounds-cols-i invariant-loop-i decreases-loop-i
+bounds-cols-i c = search rules
 
 -- the pick's record, and its entry in the matrix
-in_table : (t : tie.Then1 invariant-loop decreases-loop)
-    → let b = given t.before.before.before in get_or b.args.picks.cols t.before.before.loop.i 0 < 64
+in_table : (t : tie.In-loop-i invariant-loop-i decreases-loop-i)
+    → let b = given t.before.before.before in get_or b.args.picks.cols-1 t.before.before.loop-i.i 0 < 64
 in_table t =
     let l = t.before.before in
     let p = (given l.before).pre in
-    omega (arith, p.5 l.loop.i t.if1.true, p.1.fit)
+    omega (arith, p.5 l.loop-i.i t.loop-i-test.true, p.1.fit)
 
-in-matrix : (t : tie.Then1 invariant-loop decreases-loop)
+in-matrix : (t : tie.In-loop-i invariant-loop-i decreases-loop-i)
     → let l = t.before.before in
     let a = (given l.before).args in
-    get_or a.picks.rows l.loop.i 0 * a.counts.records + get_or a.picks.cols l.loop.i 0 < length a.distances.now
+    get_or a.picks.rows-1 l.loop-i.i 0 * a.counts.records + get_or a.picks.cols-1 l.loop-i.i 0 < length a.distances.now
 in-matrix t =
     let l = t.before.before in
     let p = (given l.before).pre in
-    cell_below (p.4 l.loop.i t.if1.true) (p.5 l.loop.i t.if1.true) (omega (arith, p.2))
+    cell_below (p.4 l.loop-i.i t.loop-i-test.true) (p.5 l.loop-i.i t.loop-i-test.true) (omega (arith, p.2))
 
-mul-o : tie.Need-overflow-mul-o invariant-loop decreases-loop
-mul-o c = record { fits = omega (arith, in_table c) }
+offset_bounds-records-k : tie.Need-offset_bounds-records-k invariant-loop-i decreases-loop-i
+offset_bounds-records-k c = record { fits = omega (arith, in_table c) }
 
-array-copy-out-o : tie.Need-array-copy-out-o invariant-loop decreases-loop
-array-copy-out-o c = in_table c
+bounds-records-k : tie.Need-bounds-records-k invariant-loop-i decreases-loop-i
+bounds-records-k c = in_table c
 
-mul-distance : tie.Need-overflow-mul-distance invariant-loop decreases-loop
-mul-distance c = record { fits = omega (arith, in-matrix c.before, (given c.before.before.before.before).good.1.1.1.1.1.1.1.0) }
+overflow_mul-distance : tie.Need-overflow_mul-distance invariant-loop-i decreases-loop-i
+overflow_mul-distance c = record { fits = omega (arith, in-matrix c.before, (given c.before.before.before.before).good.1.1.1.1.1.1.1.0) }
 
-add-distance : tie.Need-overflow-add-distance invariant-loop decreases-loop
-add-distance c = record { fits = omega (arith, in-matrix c.before, (given c.before.before.before.before).good.1.1.1.1.1.1.1.0) }
+overflow_add-distance : tie.Need-overflow_add-distance invariant-loop-i decreases-loop-i
+overflow_add-distance c = record { fits = omega (arith, in-matrix c.before, (given c.before.before.before.before).good.1.1.1.1.1.1.1.0) }
 
-mul-distance-2 : tie.Need-overflow-mul-distance-2 invariant-loop decreases-loop
-mul-distance-2 c = record { fits = omega (arith, in-matrix c.before, (given c.before.before.before.before).good.1.1.1.1.1.1.1.0) }
+offset_bounds-distances-d : tie.Need-offset_bounds-distances-d invariant-loop-i decreases-loop-i
+offset_bounds-distances-d c = record { fits = omega (arith, in-matrix c.before, (given c.before.before.before.before).good.1.1.1.1.1.1.1.0) }
 
-shared-slice-read-distance : tie.Need-shared-slice-read-distance invariant-loop decreases-loop
-shared-slice-read-distance c = in-matrix c.before.before
+bounds-distances-d : tie.Need-bounds-distances-d invariant-loop-i decreases-loop-i
+bounds-distances-d c = in-matrix c.before.before
 
-hit-at-requires : tie.Need-hit-at-requires invariant-loop decreases-loop
-hit-at-requires c κs =
+hit_at-changed-requires : tie.Need-hit_at-changed-requires invariant-loop-i decreases-loop-i
+hit_at-changed-requires c κs =
     let t = c.before.before.before in
     let l = t.before.before in
     let b = given l.before in
     let p = b.pre in (
       fits_without p.0 [],
-      p.4 l.loop.i t.if1.true,
-      object_in_range (passing b) l.loop.i l.loop.invariant.1 t.if1.true,
-      block_inside (passing b) l.loop.i l.loop.invariant.1 t.if1.true,
+      p.4 l.loop-i.i t.loop-i-test.true,
+      object_in_range (passing b) l.loop-i.i l.loop-i.invariant.1 t.loop-i-test.true,
+      block_inside (passing b) l.loop-i.i l.loop-i.invariant.1 t.loop-i-test.true,
     )
 
-mul-records : tie.Need-overflow-mul-records invariant-loop decreases-loop
-mul-records c = record { fits = omega (arith, in_table c.before.before.before.before.before.before.before) }
+offset_bounds-records-k-in-loop-i : tie.Need-offset_bounds-records-k-in-loop-i invariant-loop-i decreases-loop-i
+offset_bounds-records-k-in-loop-i c = record { fits = omega (arith, in_table c.before.before.before.before.before.before.before) }
 
-array-set-from-records : tie.Need-array-set-from-records invariant-loop decreases-loop
-array-set-from-records c = in_table c.before.before.before.before.before.before.before
+bounds-records-k-in-loop-i : tie.Need-bounds-records-k-in-loop-i invariant-loop-i decreases-loop-i
+bounds-records-k-in-loop-i c = in_table c.before.before.before.before.before.before.before
 
-issue-requires : tie.Need-issue-requires invariant-loop decreases-loop
-issue-requires c κs =
+issue-counts-requires : tie.Need-issue-counts-requires invariant-loop-i decreases-loop-i
+issue-counts-requires c κs =
     let l = c.before.before.before.before.before.before.before.before.before in
     let b = given l.before in
-    omega (arith, permanent-most (passing b) l.loop.i l.loop.invariant.1, l.loop.invariant.0, b.pre.3, b.pre.6)
+    omega (arith, permanent-most (passing b) l.loop-i.i l.loop-i.invariant.1, l.loop-i.invariant.0, b.pre.3, b.pre.6)
 
-add-i : tie.Need-overflow-add-i invariant-loop decreases-loop
-add-i c = search rules
+overflow_add-i : tie.Need-overflow_add-i invariant-loop-i decreases-loop-i
+overflow_add-i c = search rules
 
-loop-less : tie.Need-loop-smaller invariant-loop decreases-loop
-loop-less c = search rules
+loop-i-smaller : tie.Need-loop-i-smaller invariant-loop-i decreases-loop-i
+loop-i-smaller c = search rules
 
-loop-again : tie.Need-loop-preserved invariant-loop decreases-loop
-loop-again c =
+loop-i-preserved : tie.Need-loop-i-preserved invariant-loop-i decreases-loop-i
+loop-i-preserved c =
     let called = c.before.before.before.before in
     let t = called.before.before.before.before in
     let l = t.before.before in
     let b = given l.before in (
       search rules,
-      put_next (passing b) l.loop.i l.loop.invariant.1 t.if1.true called.hit-at.ensures.0 called.hit-at.ensures.1 c.issue.ensures,
+      put_next (passing b) l.loop-i.i l.loop-i.invariant.1 t.loop-i-test.true called.hit_at-changed.ensures.0 called.hit_at-changed.ensures.1 c.issue-counts.ensures,
     )
 
-same_length : tie.Need-same-length invariant-loop decreases-loop
-same_length c =
+shape_of-s : tie.Need-shape_of-s invariant-loop-i decreases-loop-i
+shape_of-s c =
     let l = c.before.before in
-    floats_long (passing (given l.before)) l.loop.i l.loop.invariant.1 l.loop.invariant.0
+    floats_long (passing (given l.before)) l.loop-i.i l.loop-i.invariant.1 l.loop-i.invariant.0
 
-returns : tie.Need-returns invariant-loop decreases-loop
+returns : tie.Need-returns invariant-loop-i decreases-loop-i
 returns c =
     let l = c.before.before in
-    let put = l.loop.invariant.1 in
-    let e : l.loop.i ≡ (given l.before).args.picks.count = omega arith in
+    let put = l.loop-i.invariant.1 in
+    let e : l.loop-i.i ≡ (given l.before).args.picks.count = omega arith in
     rw (← e) (rw (put.records, put.counts), put.floats)
 
-pub hit-each-spec : {M : Type 1} → statement M
-hit-each-spec =
+pub hit_each_spec : {M : Type 1} → statement M
+hit_each_spec =
     tie.close
     (tie.spec
-    invariant-loop
-    decreases-loop
-    loop-holds
-    mul-d
-    array-read-d
-    mul-k
-    array-read-k
-    mul-o
-    array-copy-out-o
-    mul-distance
-    add-distance
-    mul-distance-2
-    shared-slice-read-distance
-    hit-at-requires
-    mul-records
-    array-set-from-records
-    issue-requires
-    add-i
-    loop-less
-    loop-again
-    same_length
+    invariant-loop-i
+    decreases-loop-i
+    loop-i-init
+    offset_bounds-rows-i
+    bounds-rows-i
+    offset_bounds-cols-i
+    bounds-cols-i
+    offset_bounds-records-k
+    bounds-records-k
+    overflow_mul-distance
+    overflow_add-distance
+    offset_bounds-distances-d
+    bounds-distances-d
+    hit_at-changed-requires
+    offset_bounds-records-k-in-loop-i
+    bounds-records-k-in-loop-i
+    issue-counts-requires
+    overflow_add-i
+    loop-i-smaller
+    loop-i-preserved
+    shape_of-s
     returns)

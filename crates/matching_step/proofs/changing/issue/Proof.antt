@@ -3,14 +3,14 @@ use borrow.Author.Rules.{rules}
 use Rattle.matching_step.proofs.changing.issue.Statement.{statement}
 use Rattle.matching_step.proofs.changing.issue.Tie as tie
 
-add-counts : tie.Need-overflow-add-counts
-add-counts c = search rules
+overflow_add-counts : tie.Need-overflow_add-counts
+overflow_add-counts c = search rules
 
-returns : tie.Need-returns
-returns c = rw c.before.if1.true
+returns-then-took : tie.Need-returns-then-took
+returns-then-took c = rw c.before.if-took.true
 
-returns-2 : tie.Need-returns-2
-returns-2 c = rw c.if1.false
+returns-else-took : tie.Need-returns-else-took
+returns-else-took c = rw c.if-took.false
 
-pub issue-spec : {M : Type 1} → statement M
-issue-spec = tie.close (tie.spec add-counts returns returns-2)
+pub issue_spec : {M : Type 1} → statement M
+issue_spec = tie.close (tie.spec overflow_add-counts returns-then-took returns-else-took)

@@ -8,49 +8,49 @@ use Rattle.matching_step.proofs.Lending.{Lending, Parted, block_inside, points_i
 use Rattle.matching_step.proofs.changing.open_at.Statement.{statement}
 use Rattle.matching_step.proofs.changing.open_at.Tie as tie
 
-abbrev given : tie.After-layout-of → tie.Start
+abbrev given : tie.After-layout_of-at → tie.Start
 given l = l.before.before.before.before.before
 
-lends : (l : tie.After-layout-of)
+lends : (l : tie.After-layout_of-at)
     → let a = (given l).args in
-    Lending a.config l.layout_of.result (frame a.period a.points.now a.scores.now a.has-scores.now []) a.s.now a.k a.d
-lends l = let p = (given l).requires in record { layout = l.layout_of.ensures; fits = p.0; few = p.1; room = p.2 }
+    Lending a.config l.layout_of-at.result (frame a.period a.points.now a.scores.now a.has_scores.now []) a.s-1.now a.k a.d
+lends l = let p = (given l).requires in record { layout = l.layout_of-at.ensures; fits = p.0; few = p.1; room = p.2 }
 
-abbrev laid : tie.After-part-of2 → tie.After-layout-of
+abbrev laid : tie.After-part_of-marks → tie.After-layout_of-at
 laid p = p.before.before.before.before
 
-parted : (p : tie.After-part-of2) → Parted (lends (laid p)) p.before.part_of.result.now p.part-of2.result.now
-parted p = record { own = p.before.part_of.ensures; marks = p.part-of2.ensures }
+parted : (p : tie.After-part_of-marks) → Parted (lends (laid p)) p.before.part_of-own.result.now p.part_of-marks.result.now
+parted p = record { own = p.before.part_of-own.ensures; marks = p.part_of-marks.ensures }
 
-layout-of-requires : tie.Need-layout-of-requires
-layout-of-requires c κs = c.before.before.before.before.requires.0.sizes
+layout_of-at-requires : tie.Need-layout_of-at-requires
+layout_of-at-requires c κs = c.before.before.before.before.requires.0.sizes
 
-mul-start : tie.Need-overflow-mul-start
-mul-start c = record { fits = omega (arith, block_inside (lends c.before), (given c.before).well-formed) }
+overflow_mul-start : tie.Need-overflow_mul-start
+overflow_mul-start c = record { fits = omega (arith, block_inside (lends c.before), (given c.before).well_formed) }
 
-add-end : tie.Need-overflow-add-end
-add-end c = record { fits = omega (arith, block_inside (lends c.before.before), (given c.before.before).well-formed) }
+overflow_add-end : tie.Need-overflow_add-end
+overflow_add-end c = record { fits = omega (arith, block_inside (lends c.before.before), (given c.before.before).well_formed) }
 
-part-of-requires : tie.Need-part-of-requires
-part-of-requires c κs = points_inside (lends c.before.before)
+part_of-own-requires : tie.Need-part_of-own-requires
+part_of-own-requires c κs = points_inside (lends c.before.before)
 
-part-of-requires-2 : tie.Need-part-of-requires-2
-part-of-requires-2 c κs = scores_inside (lends c.before.before.before)
+part_of-marks-requires : tie.Need-part_of-marks-requires
+part_of-marks-requires c κs = scores_inside (lends c.before.before.before)
 
-shared-slice-read-has : tie.Need-shared-slice-read-has
-shared-slice-read-has c = search rules
+bounds-has_scores-d : tie.Need-bounds-has_scores-d
+bounds-has_scores-d c = search rules
 
-mul-open : tie.Need-overflow-mul-open
-mul-open c = record { fits = omega (arith, block_inside (lends (laid c.before)), (given (laid c.before)).well-formed) }
+offset_bounds-s-start : tie.Need-offset_bounds-s-start
+offset_bounds-s-start c = record { fits = omega (arith, block_inside (lends (laid c.before)), (given (laid c.before)).well_formed) }
 
-sub_open : tie.Need-overflow-sub-open
-sub_open c = search rules
+slice_bounds-open-count : tie.Need-slice_bounds-open-count
+slice_bounds-open-count c = search rules
 
-part-open-start : tie.Need-slice-bounds-open-start
-part-open-start c = search rules
+slice_bounds-open-start : tie.Need-slice_bounds-open-start
+slice_bounds-open-start c = search rules
 
-part-open-end : tie.Need-slice-bounds-open-end
-part-open-end c = block_inside (lends (laid c.before))
+slice_bounds-open-end : tie.Need-slice_bounds-open-end
+slice_bounds-open-end c = block_inside (lends (laid c.before))
 
 open-requires : tie.Need-open-requires
 open-requires c κs =
@@ -58,8 +58,8 @@ open-requires c κs =
     let pre = (given (laid p)).requires in
     (pre.0.sizes, points_long (parted p), scores_long (parted p), pre.0.period, block_long (lends (laid p)))
 
-same_length : tie.Need-same-length
-same_length c = search rules
+shape_of-s : tie.Need-shape_of-s
+shape_of-s c = search rules
 
 returns : tie.Need-returns
 returns c =
@@ -67,23 +67,23 @@ returns c =
     let p = called.before.before.before in
     let a = (given (laid p)).args in (
       by_detection (parted p) (λ x. changed_by_opening a.config x a.period a.counts.global a.counts.initializing a.counts.permanent) called.«open».ensures.0,
-      block_back (parted p) (block_opened a.config) c.before.s.given.0 called.«open».ensures.1,
+      block_back (parted p) (block_opened a.config) c.before.s-1.given.0 called.«open».ensures.1,
     )
 
-pub open-at-spec : {M : Type 1} → statement M
-open-at-spec =
+pub open_at_spec : {M : Type 1} → statement M
+open_at_spec =
     tie.close
     (tie.spec
-    layout-of-requires
-    mul-start
-    add-end
-    part-of-requires
-    part-of-requires-2
-    shared-slice-read-has
-    mul-open
-    sub_open
-    part-open-start
-    part-open-end
+    layout_of-at-requires
+    overflow_mul-start
+    overflow_add-end
+    part_of-own-requires
+    part_of-marks-requires
+    bounds-has_scores-d
+    offset_bounds-s-start
+    slice_bounds-open-count
+    slice_bounds-open-start
+    slice_bounds-open-end
     open-requires
-    same_length
+    shape_of-s
     returns)

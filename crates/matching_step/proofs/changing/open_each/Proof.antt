@@ -14,116 +14,116 @@ use Rattle.matching_step.proofs.Opening.{Raised, opens, Openable, openable, turn
 use Rattle.matching_step.proofs.changing.open_each.Statement.{statement}
 use Rattle.matching_step.proofs.changing.open_each.Tie as tie
 
-abbrev invariant-loop : tie.invariant-loop
-invariant-loop config counts₀ s₀ points scores has-scores period left records₀ at i₀ counts s records i =
+abbrev invariant-loop-i : tie.invariant-loop-i
+invariant-loop-i config counts₀ s₀ points scores has-scores period left records₀ at i₀ counts s records i =
     (i ≤ left.count)
     × Put config records₀ s₀ (opens config (frame period points scores has-scores []) s₀ (take i (numbers left)) (found config records₀ s₀ counts₀)) records counts s
 
-abbrev decreases-loop : tie.decreases-loop
-decreases-loop config counts₀ s₀ points scores has-scores period left records₀ at i₀ counts s records i = left.count - i
+abbrev decreases-loop-i : tie.decreases-loop-i
+decreases-loop-i config counts₀ s₀ points scores has-scores period left records₀ at i₀ counts s records i = left.count - i
 
-abbrev given : tie.At-loop invariant-loop decreases-loop → tie.Start invariant-loop decreases-loop
+abbrev given : tie.At-loop-i invariant-loop-i decreases-loop-i → tie.Start invariant-loop-i decreases-loop-i
 given l = l.before.before.before.before.before.before
 
 -- the numbers to open lie in their array, and are as many as it says
-listed : (l : tie.At-loop invariant-loop decreases-loop) → (given l).args.left.count ≤ length (given l).args.left.at
+listed : (l : tie.At-loop-i invariant-loop-i decreases-loop-i) → (given l).args.left.count ≤ length (given l).args.left.at-1
 listed l =
-    let all : length (given l).args.left.at ≡ 64 = simp length-map at (given l).well-formed.1.1.1.1.1.1.1.1.0.1.1.0.1.0.1 in
+    let all : length (given l).args.left.at-1 ≡ 64 = simp length-map at (given l).well_formed.1.1.1.1.1.1.1.1.0.1.1.0.1.0.1 in
     omega arith
 
-count : (l : tie.At-loop invariant-loop decreases-loop) → length (numbers (given l).args.left) ≡ (given l).args.left.count
-count l = length-take-le (given l).args.left.count (given l).args.left.at (listed l)
+count : (l : tie.At-loop-i invariant-loop-i decreases-loop-i) → length (numbers (given l).args.left) ≡ (given l).args.left.count
+count l = length-take-le (given l).args.left.count (given l).args.left.at-1 (listed l)
 
 -- there is room for them all
-ready : (l : tie.At-loop invariant-loop decreases-loop)
+ready : (l : tie.At-loop-i invariant-loop-i decreases-loop-i)
     → let a = (given l).args in
-    Openable a.config (frame a.period a.points.now a.scores.now a.has-scores.now []) a.s.now (found a.config a.t2 a.s.now a.counts) (numbers a.left)
+    Openable a.config (frame a.period a.points.now a.scores.now a.has_scores.now []) a.s-1.now (found a.config a.t2 a.s-1.now a.counts) (numbers a.left)
 ready l =
     let a = (given l).args in
     let p = (given l).requires in
-    openable a.s.now a.t2 a.counts a.left p.0 (listed l) p.3 p.2
+    openable a.s-1.now a.t2 a.counts a.left p.0 (listed l) p.3 p.2
 
-loop-holds : tie.Need-loop-init invariant-loop decreases-loop
+loop-i-init : tie.Need-loop-i-init invariant-loop-i decreases-loop-i
 unfolding through
-loop-holds c =
+loop-i-init c =
     let s = c.before.before.before.before.before in
-    let all : length s.args.t2 ≡ 64 = s.well-formed.1.0.1.0.1 in
-    (omega arith, put_found s.args.config s.args.t2 s.args.s.now s.args.counts (omega arith))
+    let all : length s.args.records ≡ 64 = s.well_formed.1.0.1.0.1 in
+    (omega arith, put_found s.args.config s.args.records s.args.s.now s.args.counts (omega arith))
 
-mul-d : tie.Need-overflow-mul-d invariant-loop decreases-loop
-mul-d c = search rules
+offset_bounds-at-i : tie.Need-offset_bounds-at-i invariant-loop-i decreases-loop-i
+offset_bounds-at-i c = search rules
 
-array-read-d : tie.Need-array-read-d invariant-loop decreases-loop
-array-read-d c = search rules
+bounds-at-i : tie.Need-bounds-at-i invariant-loop-i decreases-loop-i
+bounds-at-i c = search rules
 
-open-at-requires : tie.Need-open-at-requires invariant-loop decreases-loop
-open-at-requires c κs =
+open_at-changed-requires : tie.Need-open_at-changed-requires invariant-loop-i decreases-loop-i
+open_at-changed-requires c κs =
     let t = c.before in
     let l = t.before.before in
     let p = (given l).requires in
-    let most : l.loop.i ≤ length (numbers (given l).args.left) = omega (arith, count l) in (
+    let most : l.loop-i.i ≤ length (numbers (given l).args.left) = omega (arith, count l) in (
       p.0,
-      p.3 l.loop.i t.if1.true,
-      rw (turn_long (ready l) l.loop.i most l.loop.invariant.1) (turn-room (ready l) l.loop.i most l.loop.invariant.1 (omega (arith, count l))),
+      p.3 l.loop-i.i t.loop-i-test.true,
+      rw (turn_long (ready l) l.loop-i.i most l.loop-i.invariant.1) (turn-room (ready l) l.loop-i.i most l.loop-i.invariant.1 (omega (arith, count l))),
     )
 
 -- the counts so far
-so_far : (l : tie.At-loop invariant-loop decreases-loop) → Raised l.loop.i (given l).args.counts l.loop.counts
-so_far l = turn-counts (ready l) l.loop.i (omega (arith, count l)) l.loop.invariant.1
+so_far : (l : tie.At-loop-i invariant-loop-i decreases-loop-i) → Raised l.loop-i.i (given l).args.counts l.loop-i.counts
+so_far l = turn-counts (ready l) l.loop-i.i (omega (arith, count l)) l.loop-i.invariant.1
 
-mul-records : tie.Need-overflow-mul-records invariant-loop decreases-loop
-mul-records c = let r = so_far c.before.before.before.before.before.before.before in record { fits = omega arith }
+offset_bounds-records-k : tie.Need-offset_bounds-records-k invariant-loop-i decreases-loop-i
+offset_bounds-records-k c = let r = so_far c.before.before.before.before.before.before.before in record { fits = omega arith }
 
-array-set-from-records : tie.Need-array-set-from-records invariant-loop decreases-loop
-array-set-from-records c = let r = so_far c.before.before.before.before.before.before.before in omega arith
+bounds-records-k : tie.Need-bounds-records-k invariant-loop-i decreases-loop-i
+bounds-records-k c = let r = so_far c.before.before.before.before.before.before.before in omega arith
 
-count-opening-requires : tie.Need-count-opening-requires invariant-loop decreases-loop
-count-opening-requires c κs = let r = so_far c.before.before.before.before.before.before.before in omega arith
+count_opening-counts-requires : tie.Need-count_opening-counts-requires invariant-loop-i decreases-loop-i
+count_opening-counts-requires c κs = let r = so_far c.before.before.before.before.before.before.before in omega arith
 
-add-i : tie.Need-overflow-add-i invariant-loop decreases-loop
-add-i c = search rules
+overflow_add-i : tie.Need-overflow_add-i invariant-loop-i decreases-loop-i
+overflow_add-i c = search rules
 
-loop-less : tie.Need-loop-smaller invariant-loop decreases-loop
-loop-less c = search rules
+loop-i-smaller : tie.Need-loop-i-smaller invariant-loop-i decreases-loop-i
+loop-i-smaller c = search rules
 
-loop-again : tie.Need-loop-preserved invariant-loop decreases-loop
-loop-again c =
+loop-i-preserved : tie.Need-loop-i-preserved invariant-loop-i decreases-loop-i
+loop-i-preserved c =
     let called = c.before.before.before.before in
     let l = called.before.before.before.before in
     let a = (given l).args in
-    let all : length a.t2 ≡ 64 = (given l).well-formed.1.0.1.0.1 in
-    let h : l.loop.i < length (numbers a.left) = omega (arith, count l) in
-    let d = get_or-take a.left.count a.left.at l.loop.i 0 (omega arith) in (
+    let all : length a.t2 ≡ 64 = (given l).well_formed.1.0.1.0.1 in
+    let h : l.loop-i.i < length (numbers a.left) = omega (arith, count l) in
+    let d = get_or-take a.left.count a.left.at-1 l.loop-i.i 0 (omega arith) in (
       omega arith,
-      let next = turn_next (ready l) l.loop.i (omega arith) l.loop.invariant.1 h (omega (arith, count l)) (sym d) in
-          rw c.count-opening.ensures (next called.open_at.ensures.0 called.open_at.ensures.1),
+      let next = turn_next (ready l) l.loop-i.i (omega arith) l.loop-i.invariant.1 h (omega (arith, count l)) (sym d) in
+          rw c.count_opening-counts.ensures (next called.open_at-changed.ensures.0 called.open_at-changed.ensures.1),
     )
 
-same_length : tie.Need-same-length invariant-loop decreases-loop
-same_length c = let l = c.before.before in turn_long (ready l) l.loop.i (omega (arith, count l)) l.loop.invariant.1
+shape_of-s : tie.Need-shape_of-s invariant-loop-i decreases-loop-i
+shape_of-s c = let l = c.before.before in turn_long (ready l) l.loop-i.i (omega (arith, count l)) l.loop-i.invariant.1
 
-returns : tie.Need-returns invariant-loop decreases-loop
+returns : tie.Need-returns invariant-loop-i decreases-loop-i
 returns c =
     let l = c.before.before in
-    let put = l.loop.invariant.1 in
-    let whole = take_all l.loop.i (numbers (given l).args.left) (omega (arith, count l)) in
+    let put = l.loop-i.invariant.1 in
+    let whole = take_all l.loop-i.i (numbers (given l).args.left) (omega (arith, count l)) in
     (rw (put.records, put.counts, whole), rw whole at put.floats)
 
-pub open-each-spec : {M : Type 1} → statement M
-open-each-spec =
+pub open_each_spec : {M : Type 1} → statement M
+open_each_spec =
     tie.close
     (tie.spec
-    invariant-loop
-    decreases-loop
-    loop-holds
-    mul-d
-    array-read-d
-    open-at-requires
-    mul-records
-    array-set-from-records
-    count-opening-requires
-    add-i
-    loop-less
-    loop-again
-    same_length
+    invariant-loop-i
+    decreases-loop-i
+    loop-i-init
+    offset_bounds-at-i
+    bounds-at-i
+    open_at-changed-requires
+    offset_bounds-records-k
+    bounds-records-k
+    count_opening-counts-requires
+    overflow_add-i
+    loop-i-smaller
+    loop-i-preserved
+    shape_of-s
     returns)

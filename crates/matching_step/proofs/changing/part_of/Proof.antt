@@ -5,28 +5,28 @@ use Rattle.laws.proofs.Pasting.{part_same}
 use Rattle.matching_step.proofs.changing.part_of.Statement.{statement}
 use Rattle.matching_step.proofs.changing.part_of.Tie as tie
 
-mul-start : tie.Need-overflow-mul-start
-mul-start c = search rules
+overflow_mul-start : tie.Need-overflow_mul-start
+overflow_mul-start c = search rules
 
-add-end : tie.Need-overflow-add-end
-add-end c = search rules
+overflow_add-end : tie.Need-overflow_add-end
+overflow_add-end c = search rules
 
-mul-result : tie.Need-overflow-mul-result
-mul-result c = search rules
+offset_bounds-s-start : tie.Need-offset_bounds-s-start
+offset_bounds-s-start c = search rules
 
-sub-result : tie.Need-overflow-sub-result
-sub-result c = search rules
+slice_bounds-result-count : tie.Need-slice_bounds-result-count
+slice_bounds-result-count c = search rules
 
-part-result-start : tie.Need-slice-bounds-result-start
-part-result-start c = search rules
+slice_bounds-result-start : tie.Need-slice_bounds-result-start
+slice_bounds-result-start c = search rules
 
-part-result-end : tie.Need-slice-bounds-result-end
-part-result-end c = search rules
+slice_bounds-result-end : tie.Need-slice_bounds-result-end
+slice_bounds-result-end c = search rules
 
 returns : tie.Need-returns
 returns c = let a = c.before.args in part_same a.s.now (a.i * a.size) a.size
 
-pub part-of-spec : {M : Type 1} → statement M
-part-of-spec =
+pub part_of_spec : {M : Type 1} → statement M
+part_of_spec =
     tie.close
-    (tie.spec mul-start add-end mul-result sub-result part-result-start part-result-end returns)
+    (tie.spec overflow_mul-start overflow_add-end offset_bounds-s-start slice_bounds-result-count slice_bounds-result-start slice_bounds-result-end returns)

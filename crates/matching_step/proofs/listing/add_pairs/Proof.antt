@@ -26,123 +26,123 @@ pair_is : (records : List TrackedObject) (f : Frame) (n pass : ℕ) (p : Pick) {
     → ◌≡◌ {A = Pair} (record { detection = p.row; global_id = o.origin.global_id; pass = pass; distance = distance_of f n p }) (pair_of records f n pass p)
 pair_is records f n pass p e = rw e
 
-abbrev invariant-loop : tie.invariant-loop
-invariant-loop start distances detections n picks pass pairs₀ records rows cols i₀ pairs i =
+abbrev invariant-loop-i : tie.invariant-loop-i
+invariant-loop-i start distances detections n picks pass pairs₀ records rows cols i₀ pairs i =
     (pairs ≡ filled 32 no_pair (behind (take start pairs₀) (pair_of records (frame 0 [] [] [] distances) n pass) picks i)) × (i ≤ picks.count)
 
-abbrev decreases-loop : tie.decreases-loop
-decreases-loop start distances detections n picks pass pairs₀ records rows cols i₀ pairs i = picks.count - i
+abbrev decreases-loop-i : tie.decreases-loop-i
+decreases-loop-i start distances detections n picks pass pairs₀ records rows cols i₀ pairs i = picks.count - i
 
-abbrev given : tie.At-loop invariant-loop decreases-loop → tie.Start invariant-loop decreases-loop
+abbrev given : tie.At-loop-i invariant-loop-i decreases-loop-i → tie.Start invariant-loop-i decreases-loop-i
 given l = l.before.before.before
 
 -- the pick names a record and an entry of the matrix
-chosen : (c : tie.Then1 invariant-loop decreases-loop)
-    → let i = c.before.before.loop.i in
+chosen : (c : tie.In-loop-i invariant-loop-i decreases-loop-i)
+    → let i = c.before.before.loop-i.i in
     let a = (given c.before.before).args in
-    let d = get_or a.picks.rows i 0 in
-    let k = get_or a.picks.cols i 0 in
+    let d = get_or a.picks.rows-1 i 0 in
+    let k = get_or a.picks.cols-1 i 0 in
     (k < 64) × (d * a.n + k < length a.distances.now) × (length a.distances.now ≤ 2048)
 chosen c =
     let g = given c.before.before in
-    let col = g.pre.5 c.before.before.loop.i c.if1.true in (
+    let col = g.pre.5 c.before.before.loop-i.i c.loop-i-test.true in (
       omega arith,
-      cell_below (g.pre.4 c.before.before.loop.i c.if1.true) col (omega arith),
+      cell_below (g.pre.4 c.before.before.loop-i.i c.loop-i-test.true) col (omega arith),
       omega (arith, mul-le-mul {n₁ = g.args.detections} {m₁ = g.args.n} {n₂ = 32} {m₂ = 64} g.pre.1 g.pre.2),
     )
 
-loop-holds : tie.Need-loop-init invariant-loop decreases-loop
+loop-i-init : tie.Need-loop-i-init invariant-loop-i decreases-loop-i
 unfolding below
-loop-holds c =
+loop-i-init c =
     let s = c.before.before in
-    (s.requires.6 ∙ ap (filled 32 no_pair) (sym (append-nil (take s.args.start s.args.t1))), omega arith)
+    (s.requires.6 ∙ ap (filled 32 no_pair) (sym (append-nil (take s.args.start s.args.pairs))), omega arith)
 
-mul-d : tie.Need-overflow-mul-d invariant-loop decreases-loop
-mul-d c = search rules
+offset_bounds-rows-i : tie.Need-offset_bounds-rows-i invariant-loop-i decreases-loop-i
+offset_bounds-rows-i c = search rules
 
-array-read-d : tie.Need-array-read-d invariant-loop decreases-loop
-array-read-d c = search rules
+bounds-rows-i : tie.Need-bounds-rows-i invariant-loop-i decreases-loop-i
+bounds-rows-i c = search rules
 
-mul-k : tie.Need-overflow-mul-k invariant-loop decreases-loop
-mul-k c = search rules
+offset_bounds-cols-i : tie.Need-offset_bounds-cols-i invariant-loop-i decreases-loop-i
+offset_bounds-cols-i c = search rules
 
-array-read-k : tie.Need-array-read-k invariant-loop decreases-loop
-array-read-k c = search rules
+bounds-cols-i : tie.Need-bounds-cols-i invariant-loop-i decreases-loop-i
+bounds-cols-i c = search rules
 
-mul-o : tie.Need-overflow-mul-o invariant-loop decreases-loop
-mul-o c = record { fits = omega (arith, chosen c) }
+offset_bounds-records-k : tie.Need-offset_bounds-records-k invariant-loop-i decreases-loop-i
+offset_bounds-records-k c = record { fits = omega (arith, chosen c) }
 
-array-copy-out-o : tie.Need-array-copy-out-o invariant-loop decreases-loop
-array-copy-out-o c = (chosen c).0
+bounds-records-k : tie.Need-bounds-records-k invariant-loop-i decreases-loop-i
+bounds-records-k c = (chosen c).0
 
-mul-distance : tie.Need-overflow-mul-distance invariant-loop decreases-loop
-mul-distance c = record { fits = omega (arith, chosen c.before) }
+overflow_mul-distance : tie.Need-overflow_mul-distance invariant-loop-i decreases-loop-i
+overflow_mul-distance c = record { fits = omega (arith, chosen c.before) }
 
-add-distance : tie.Need-overflow-add-distance invariant-loop decreases-loop
-add-distance c = record { fits = omega (arith, chosen c.before) }
+overflow_add-distance : tie.Need-overflow_add-distance invariant-loop-i decreases-loop-i
+overflow_add-distance c = record { fits = omega (arith, chosen c.before) }
 
-mul-distance-2 : tie.Need-overflow-mul-distance-2 invariant-loop decreases-loop
-mul-distance-2 c = record { fits = omega (arith, chosen c.before) }
+offset_bounds-distances-d : tie.Need-offset_bounds-distances-d invariant-loop-i decreases-loop-i
+offset_bounds-distances-d c = record { fits = omega (arith, chosen c.before) }
 
-shared-slice-read-distance : tie.Need-shared-slice-read-distance invariant-loop decreases-loop
-shared-slice-read-distance c = (chosen c.before.before).1
+bounds-distances-d : tie.Need-bounds-distances-d invariant-loop-i decreases-loop-i
+bounds-distances-d c = (chosen c.before.before).1
 
-add-pairs : tie.Need-overflow-add-pairs invariant-loop decreases-loop
-add-pairs c = search rules
+overflow_add-pairs : tie.Need-overflow_add-pairs invariant-loop-i decreases-loop-i
+overflow_add-pairs c = search rules
 
-mul-pairs : tie.Need-overflow-mul-pairs invariant-loop decreases-loop
-mul-pairs c = search rules
+offset_bounds-pairs-start : tie.Need-offset_bounds-pairs-start invariant-loop-i decreases-loop-i
+offset_bounds-pairs-start c = search rules
 
-array-set-from-pairs : tie.Need-array-set-from-pairs invariant-loop decreases-loop
-array-set-from-pairs c = search rules
+bounds-pairs-start : tie.Need-bounds-pairs-start invariant-loop-i decreases-loop-i
+bounds-pairs-start c = search rules
 
-add-i : tie.Need-overflow-add-i invariant-loop decreases-loop
-add-i c = search rules
+overflow_add-i : tie.Need-overflow_add-i invariant-loop-i decreases-loop-i
+overflow_add-i c = search rules
 
-loop-less : tie.Need-loop-smaller invariant-loop decreases-loop
-loop-less c = search rules
+loop-i-smaller : tie.Need-loop-i-smaller invariant-loop-i decreases-loop-i
+loop-i-smaller c = search rules
 
-loop-again : tie.Need-loop-preserved invariant-loop decreases-loop
-loop-again c =
+loop-i-preserved : tie.Need-loop-i-preserved invariant-loop-i decreases-loop-i
+loop-i-preserved c =
     let t = c.before.before in
     let l = t.before.before in
     let a = (given l).args in
-    let k = get_or a.picks.cols l.loop.i 0 in
-    let many : length a.t1 ≡ 32 = (given l).well-formed.0.1.0.1 in
-    let all : length a.t3 ≡ 64 = (given l).well-formed.1.1.0.1.0.1 in
+    let k = get_or a.picks.cols-1 l.loop-i.i 0 in
+    let many : length a.t1 ≡ 32 = (given l).well_formed.0.1.0.1 in
+    let all : length a.t3 ≡ 64 = (given l).well_formed.1.1.0.1.0.1 in
     let front = length-take-le a.start a.t1 (omega arith) in
     let object = read a.t3 k (omega (arith, chosen t)) in
     let pair = pair_of a.t3 (frame 0 [] [] [] a.distances.now) a.n a.pass in
-    let same = pair_is a.t3 (frame 0 [] [] [] a.distances.now) a.n a.pass (pick_at a.picks l.loop.i) object in
-    (pair_put (take a.start a.t1) pair a.picks l.loop.i 32 no_pair (omega arith) (omega arith) l.loop.invariant.0 same, omega arith)
+    let same = pair_is a.t3 (frame 0 [] [] [] a.distances.now) a.n a.pass (pick_at a.picks l.loop-i.i) object in
+    (pair_put (take a.start a.t1) pair a.picks l.loop-i.i 32 no_pair (omega arith) (omega arith) l.loop-i.invariant.0 same, omega arith)
 
-returns : tie.Need-returns invariant-loop decreases-loop
+returns : tie.Need-returns invariant-loop-i decreases-loop-i
 returns c =
     let l = c.before.before in
-    let e : l.loop.i ≡ (given l).args.picks.count = omega arith in
-    rw e at l.loop.invariant.0
+    let e : l.loop-i.i ≡ (given l).args.picks.count = omega arith in
+    rw e at l.loop-i.invariant.0
 
-pub add-pairs-spec : {M : Type 1} → statement M
-add-pairs-spec =
+pub add_pairs_spec : {M : Type 1} → statement M
+add_pairs_spec =
     tie.close
     (tie.spec
-    invariant-loop
-    decreases-loop
-    loop-holds
-    mul-d
-    array-read-d
-    mul-k
-    array-read-k
-    mul-o
-    array-copy-out-o
-    mul-distance
-    add-distance
-    mul-distance-2
-    shared-slice-read-distance
-    add-pairs
-    mul-pairs
-    array-set-from-pairs
-    add-i
-    loop-less
-    loop-again
+    invariant-loop-i
+    decreases-loop-i
+    loop-i-init
+    offset_bounds-rows-i
+    bounds-rows-i
+    offset_bounds-cols-i
+    bounds-cols-i
+    offset_bounds-records-k
+    bounds-records-k
+    overflow_mul-distance
+    overflow_add-distance
+    offset_bounds-distances-d
+    bounds-distances-d
+    overflow_add-pairs
+    offset_bounds-pairs-start
+    bounds-pairs-start
+    overflow_add-i
+    loop-i-smaller
+    loop-i-preserved
     returns)

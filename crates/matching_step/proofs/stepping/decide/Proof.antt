@@ -9,46 +9,46 @@ use Rattle.matching_step.proofs.Deciding.{first-few, first_rows, second-few, dec
 use Rattle.matching_step.proofs.stepping.decide.Statement.{statement}
 use Rattle.matching_step.proofs.stepping.decide.Tie as tie
 
-abbrev given : tie.After-initializing → tie.Start
+abbrev given : tie.After-initializing-1 → tie.Start
 given c = c.before.before.before
 
 abbrev lent : tie.Start → Frame
 lent b = frame 0 [] [] [] b.args.distances.now
 
 -- each list names columns of the matrix, whichever of the two a pass is given
-listed : (b : tie.Start) → let l = b.args.t.lists in EachBelow 64 l.alive.count l.alive.at × EachBelow 64 l.initializing.count l.initializing.at
+listed : (b : tie.Start) → let l = b.args.t.lists in EachBelow 64 l.alive-1.count l.alive-1.at × EachBelow 64 l.initializing-1.count l.initializing-1.at
 listed b =
     let p = b.requires in
-    (λ i h. omega (arith, p.fit, p.alive.1 i h), λ i h. omega (arith, p.fit, p.initializing.1 i h))
+    (λ i h. omega (arith, p.fit, p.alive-1.1 i h), λ i h. omega (arith, p.fit, p.initializing-1.1 i h))
 
-first-pass-requires : tie.Need-first-pass-requires
-first-pass-requires c κs = search (rules, (given c).requires, listed (given c))
+first_pass-first-requires : tie.Need-first_pass-first-requires
+first_pass-first-requires c κs = search (rules, (given c).requires, listed (given c))
 
-second-pass-requires : tie.Need-second-pass-requires
-second-pass-requires c κs =
+second_pass-second-requires : tie.Need-second_pass-second-requires
+second_pass-second-requires c κs =
     let b = given c.before in
     let p = b.pre in
-    let one = c.first-pass.ensures in
-    let few : c.first-pass.result.count ≤ 32 = omega (arith, p.few, first-few b.args.t b.args.detections (lent b) one) in
+    let one = c.first_pass-first.ensures in
+    let few : c.first_pass-first.result.count ≤ 32 = omega (arith, p.few, first-few b.args.t b.args.detections (lent b) one) in
     let rows = first_rows b.args.t b.args.detections (lent b) one p.few in
     search (rules, p, listed b, few, rows)
 
-left-over-requires : tie.Need-left-over-requires
-left-over-requires c κs =
+left_over-left-requires : tie.Need-left_over-left-requires
+left_over-left-requires c κs =
     let b = given c.before.before in
     let p = b.pre in
-    let one = c.before.first-pass.ensures in (
+    let one = c.before.first_pass-first.ensures in (
       p.few,
       omega (arith, p.few, first-few b.args.t b.args.detections (lent b) one),
-      omega (arith, p.few, second-few b.args.t b.args.detections (lent b) one c.second-pass.ensures),
+      omega (arith, p.few, second-few b.args.t b.args.detections (lent b) one c.second_pass-second.ensures),
     )
 
 returns : tie.Need-returns
 returns c =
     let second = c.before in
     let b = given second.before.before in
-    decided b.args.t b.args.detections (lent b) second.before.first-pass.ensures second.second-pass.ensures c.left_over.ensures
+    decided b.args.t b.args.detections (lent b) second.before.first_pass-first.ensures second.second_pass-second.ensures c.left_over-left.ensures
 
-pub decide-spec : {M : Type 1} → statement M
-decide-spec =
-    tie.close (tie.spec first-pass-requires second-pass-requires left-over-requires returns)
+pub decide_spec : {M : Type 1} → statement M
+decide_spec =
+    tie.close (tie.spec first_pass-first-requires second_pass-second-requires left_over-left-requires returns)

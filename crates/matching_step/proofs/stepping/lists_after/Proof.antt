@@ -3,20 +3,20 @@ use borrow.Author.Rules.{rules}
 use Rattle.matching_step.proofs.stepping.lists_after.Statement.{statement}
 use Rattle.matching_step.proofs.stepping.lists_after.Tie as tie
 
-no-numbers-requires : tie.Need-no-numbers-requires
-no-numbers-requires c κs = search rules
+no_numbers-none-requires : tie.Need-no_numbers-none-requires
+no_numbers-none-requires c κs = search rules
 
-old-ones-requires : tie.Need-old-ones-requires
-old-ones-requires c κs = search rules
+old_ones-old-requires : tie.Need-old_ones-old-requires
+old_ones-old-requires c κs = search rules
 
-candidates-requires : tie.Need-candidates-requires
-candidates-requires c κs = search rules
+candidates-candidates-requires : tie.Need-candidates-candidates-requires
+candidates-candidates-requires c κs = search rules
 
 returns : tie.Need-returns
 returns c =
     let old = c.before in
-    rw (old.before.no-numbers.ensures, old.old-ones.ensures, c.candidates.ensures)
+    rw (old.before.no_numbers-none.ensures, old.old_ones-old.ensures, c.candidates-candidates.ensures)
 
-pub lists-after-spec : {M : Type 1} → statement M
-lists-after-spec =
-    tie.close (tie.spec no-numbers-requires old-ones-requires candidates-requires returns)
+pub lists_after_spec : {M : Type 1} → statement M
+lists_after_spec =
+    tie.close (tie.spec no_numbers-none-requires old_ones-old-requires candidates-candidates-requires returns)

@@ -10,93 +10,93 @@ use Rattle.matching_step.proofs.stepping.match_table.Tie as tie
 
 abbrev lent : tie.Start → Frame
 lent b =
-    frame b.args.period b.args.points.now b.args.scores.now b.args.has-scores.now b.args.distances.now
+    frame b.args.period b.args.points.now b.args.scores.now b.args.has_scores.now b.args.distances.now
 
 -- ---- a refusal before the picks
 
-abbrev start : tie.After-given-refusal → tie.Start
+abbrev start : tie.After-given_refusal-given → tie.Start
 start c = c.before.before.before.before.before.before
 
-given-refusal-requires : tie.Need-given-refusal-requires
-given-refusal-requires c κs = search rules
+given_refusal-given-requires : tie.Need-given_refusal-given-requires
+given_refusal-given-requires c κs = search rules
 
 refused-requires : tie.Need-refused-requires
 refused-requires c κs = search rules
 
-returns : tie.Need-returns
-returns c =
+returns-then-given-ne0 : tie.Need-returns-then-given-ne0
+returns-then-given-ne0 c =
     let b = start c.before.before in
     matched-given b.args.t b.args.s.now b.args.detections (lent b) b.args.places
-    c.before.before.given-refusal.ensures c.before.if1.true c.refused.ensures
+    c.before.before.given_refusal-given.ensures c.before.if-given-ne0.true c.refused.ensures
 
-none-given : (c : tie.Else1) → let b = start c.before in given_due b.args.t b.args.s.now b.args.detections (lent b) b.args.places ≡ 0
-none-given c = sym c.before.given-refusal.ensures ∙ c.if1.false
+none-given : (c : tie.Else-given-ne0) → let b = start c.before in given_due b.args.t b.args.s.now b.args.detections (lent b) b.args.places ≡ 0
+none-given c = sym c.before.given_refusal-given.ensures ∙ c.if-given-ne0.false
 
-decide-requires : tie.Need-decide-requires
-decide-requires c κs =
+decide-decided-requires : tie.Need-decide-decided-requires
+decide-decided-requires c κs =
     let b = start c.before in
     decidable b.args.t (length b.args.s.now) b.args.period b.args.detections (lengths_of (lent b) b.args.places) (none-given c)
 
 -- ---- a refusal once they are decided
 
-abbrev given : tie.After-decide → tie.Else1
+abbrev given : tie.After-decide-decided → tie.Else-given-ne0
 given c = c.before
 
-came : (c : tie.After-decide) →
+came : (c : tie.After-decide-decided) →
     let b = start (given c).before in
-    Picking b.args.t b.args.s.now b.args.detections (lent b) b.args.places c.decide.result
-came c = record { none = none-given (given c); made = c.decide.ensures }
+    Picking b.args.t b.args.s.now b.args.detections (lent b) b.args.places c.decide-decided.result
+came c = record { none = none-given (given c); made = c.decide-decided.ensures }
 
-decided-refusal-requires : tie.Need-decided-refusal-requires
-decided-refusal-requires c κs = askable (came c)
+decided_refusal-refusal-requires : tie.Need-decided_refusal-refusal-requires
+decided_refusal-refusal-requires c κs = askable (came c)
 
-refused-requires-2 : tie.Need-refused-requires-2
-refused-requires-2 c κs = search rules
+refused-requires-then-refusal-ne0 : tie.Need-refused-requires-then-refusal-ne0
+refused-requires-then-refusal-ne0 c κs = search rules
 
-returns-2 : tie.Need-returns-2
-returns-2 c =
+returns-then-refusal-ne0 : tie.Need-returns-then-refusal-ne0
+returns-then-refusal-ne0 c =
     let call = c.before.before in
-    matched_decided (came call.before) call.decided-refusal.ensures c.before.if2.true c.refused2.ensures
+    matched_decided (came call.before) call.decided_refusal-refusal.ensures c.before.if-refusal-ne0.true c.refused-then-refusal-ne0.ensures
 
 -- ---- no refusal is due
 
-pairs-of-requires : tie.Need-pairs-of-requires
-pairs-of-requires c κs = pairable (came c.before.before.before)
+pairs_of-pairs-requires : tie.Need-pairs_of-pairs-requires
+pairs_of-pairs-requires c κs = pairable (came c.before.before.before)
 
-match-step-requires : tie.Need-match-step-requires
-match-step-requires c κs =
+match_step-table-requires : tie.Need-match_step-table-requires
+match_step-table-requires c κs =
     let none = c.before.before.before in
     let d = none.before.before in
     let b = start (given d).before in
-    startable (came d) none.before.decided-refusal.ensures none.if2.false (simp length-map at b.good.0.1.1.0.1.0.1)
+    startable (came d) none.before.decided_refusal-refusal.ensures none.if-refusal-ne0.false (simp length-map at b.good.0.1.1.0.1.0.1)
 
-add-count : tie.Need-overflow-add-count
-add-count c = omega (arith, (pairable (came c.before.before.before.before.before.before.before.before.before)).0)
+overflow_add-count : tie.Need-overflow_add-count
+overflow_add-count c = omega (arith, (pairable (came c.before.before.before.before.before.before.before.before.before)).0)
 
-same_length : tie.Need-same-length
-same_length c = search rules
+shape_of-s : tie.Need-shape_of-s
+shape_of-s c = search rules
 
-returns-3 : tie.Need-returns-3
-returns-3 c =
+returns : tie.Need-returns
+returns c =
     let call = c.before.before.before in
     let pairs = call.before.before in
     let none = pairs.before.before in
-    matched-accepted (came none.before.before) none.before.decided-refusal.ensures none.if2.false
-    pairs.pairs_of.ensures call.match-step.ensures.0 call.match-step.ensures.1
+    matched-accepted (came none.before.before) none.before.decided_refusal-refusal.ensures none.if-refusal-ne0.false
+    pairs.pairs_of-pairs.ensures call.match_step-table.ensures.0 call.match_step-table.ensures.1
 
-pub match-table-spec : {M : Type 1} → statement M
-match-table-spec =
+pub match_table_spec : {M : Type 1} → statement M
+match_table_spec =
     tie.close
     (tie.spec
-    given-refusal-requires
+    given_refusal-given-requires
     refused-requires
-    returns
-    decide-requires
-    decided-refusal-requires
-    refused-requires-2
-    returns-2
-    pairs-of-requires
-    match-step-requires
-    add-count
-    same_length
-    returns-3)
+    returns-then-given-ne0
+    decide-decided-requires
+    decided_refusal-refusal-requires
+    refused-requires-then-refusal-ne0
+    returns-then-refusal-ne0
+    pairs_of-pairs-requires
+    match_step-table-requires
+    overflow_add-count
+    shape_of-s
+    returns)

@@ -11,24 +11,24 @@ use Rattle.matching_step.proofs.Pairing.{in-front, length-picked}
 use Rattle.matching_step.proofs.stepping.pairs_of.Statement.{statement}
 use Rattle.matching_step.proofs.stepping.pairs_of.Tie as tie
 
-add-pairs-requires : tie.Need-add-pairs-requires
-add-pairs-requires c κs = search rules
+add_pairs-front-requires : tie.Need-add_pairs-front-requires
+add_pairs-front-requires c κs = search rules
 
 -- the pairs of pass 1
 abbrev ahead : tie.Start → List Pair
 ahead b = map (pair_of b.args.records (frame 0 [] [] [] b.args.distances.now) b.args.n 1) (picked b.args.first)
 
-fronted : (c : tie.After-add-pairs) → let b = c.before.before in take b.args.first.count c.add-pairs.result ≡ ahead b
-fronted c = in-front 32 no_pair (ahead c.before.before) (length-picked _ c.before.before.args.first) c.add-pairs.ensures
+fronted : (c : tie.After-add_pairs-front) → let b = c.before.before in take b.args.first.count c.add_pairs-front.result ≡ ahead b
+fronted c = in-front 32 no_pair (ahead c.before.before) (length-picked _ c.before.before.args.first) c.add_pairs-front.ensures
 
-add-pairs-requires-2 : tie.Need-add-pairs-requires-2
-add-pairs-requires-2 c κs =
+add_pairs-requires : tie.Need-add_pairs-requires
+add_pairs-requires c κs =
     let b = c.before.before in
     let p = b.requires in
-    (p.0, p.1, p.2, p.3, p.6, p.7, rw (fronted c) c.add-pairs.ensures)
+    (p.0, p.1, p.2, p.3, p.6, p.7, rw (fronted c) c.add_pairs-front.ensures)
 
 returns : tie.Need-returns
-returns c = c.add-pairs2.ensures ∙ rw (fronted c.before)
+returns c = c.add_pairs.ensures ∙ rw (fronted c.before)
 
-pub pairs-of-spec : {M : Type 1} → statement M
-pairs-of-spec = tie.close (tie.spec add-pairs-requires add-pairs-requires-2 returns)
+pub pairs_of_spec : {M : Type 1} → statement M
+pairs_of_spec = tie.close (tie.spec add_pairs-front-requires add_pairs-requires returns)

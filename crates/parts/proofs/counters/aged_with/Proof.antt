@@ -6,14 +6,14 @@ use Rattle.parts.proofs.Kept.{hit_kept}
 use Rattle.parts.proofs.counters.aged_with.Statement.{statement}
 use Rattle.parts.proofs.counters.aged_with.Tie as tie
 
-add-t4 : tie.Need-overflow-add-t4
-add-t4 c = search rules
+overflow_add-result : tie.Need-overflow_add-result
+overflow_add-result c = search rules
 
 fallen-requires : tie.Need-fallen-requires
 fallen-requires c κs = rw (hit_kept c.before.before.requires) (omega (arith, c.before.before.requires.hit_counter))
 
 returns : tie.Need-returns
-returns c = rw (to_z-of_z (record { sfits = c.fallen.type-inv }), c.fallen.ensures, hit_kept c.before.before.before.requires)
+returns c = rw (to_z-of_z (record { sfits = c.fallen.type_inv }), c.fallen.ensures, hit_kept c.before.before.before.requires)
 
-pub aged-with-spec : {M : Type 1} → statement M
-aged-with-spec = tie.close (tie.spec add-t4 fallen-requires returns)
+pub aged_with_spec : {M : Type 1} → statement M
+aged_with_spec = tie.close (tie.spec overflow_add-result fallen-requires returns)

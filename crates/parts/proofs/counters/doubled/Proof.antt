@@ -6,14 +6,14 @@ use mir.Facts.{to_z_pos}
 use Rattle.parts.proofs.counters.doubled.Statement.{statement}
 use Rattle.parts.proofs.counters.doubled.Tie as tie
 
-mul-result : tie.Need-overflow-mul-result
-mul-result c = search rules
+overflow_mul-result : tie.Need-overflow_mul-result
+overflow_mul-result c = search rules
 
-cast-result : tie.Need-overflow-cast-result
-cast-result c = search rules
+overflow_cast-result : tie.Need-overflow_cast-result
+overflow_cast-result c = search rules
 
 returns : tie.Need-returns
 returns c = to_z_pos w32 (omega arith)
 
-pub doubled-spec : {M : Type 1} → statement M
-doubled-spec = tie.close (tie.spec mul-result cast-result returns)
+pub doubled_spec : {M : Type 1} → statement M
+doubled_spec = tie.close (tie.spec overflow_mul-result overflow_cast-result returns)

@@ -11,11 +11,11 @@ use Rattle.parts.proofs.counters.fallen.Tie as tie
 fits : (c : tie.Start) → SFits w32 (c.args.z -ℤ pos 1)
 fits c = fits32 (omega (arith, mag_add c.args.z (negsuc 0)))
 
-sub-result : tie.Need-overflow-sub-result
-sub-result c = rw (to_z-of_z c.ranges.z) (fits c)
+overflow_sub-result : tie.Need-overflow_sub-result
+overflow_sub-result c = rw (to_z-of_z c.ranges.z) (fits c)
 
 returns : tie.Need-returns
 returns c = rw (to_z-of_z c.ranges.z, to_z-of_z (fits c))
 
-pub fallen-spec : {M : Type 1} → statement M
-fallen-spec = tie.close (tie.spec sub-result returns)
+pub fallen_spec : {M : Type 1} → statement M
+fallen_spec = tie.close (tie.spec overflow_sub-result returns)

@@ -15,26 +15,26 @@ doubled-requires c κs = search rules
 
 sum-requires : tie.Need-sum-requires
 sum-requires c κs =
-    rw (hit_kept c.before.before.requires.0, to_z-of_z (record { sfits = c.before.doubled.type-inv }), c.before.doubled.ensures)
+    rw (hit_kept c.before.before.requires.0, to_z-of_z (record { sfits = c.before.doubled.type_inv }), c.before.doubled.ensures)
     (omega (arith, c.before.before.requires.0.hit_counter), omega (arith, c.before.before.requires.1))
 
-smaller-of-requires : tie.Need-smaller-of-requires
-smaller-of-requires c κs = search rules
+smaller_of-counter-requires : tie.Need-smaller_of-counter-requires
+smaller_of-counter-requires c κs = search rules
 
 -- the new counter
-counter : (c : tie.After-smaller-of) →
+counter : (c : tie.After-smaller_of-counter) →
     let s = c.before.before.before.before in
-    to_z w32 (of_z w32 c.smaller-of.result) ≡ raised s.args.period s.args.hit-counter-max s.args.l
+    to_z w32 (of_z w32 c.smaller_of-counter.result) ≡ raised s.args.period s.args.hit_counter_max s.args.l
 counter c =
     let s = c.before.before.before.before in
     rw (
-      to_z-of_z (record { sfits = c.smaller-of.type-inv }),
-      c.smaller-of.ensures,
-      to_z-of_z (record { sfits = c.before.sum.type-inv }),
-      to_z-of_z s.ranges.hit-counter-max,
+      to_z-of_z (record { sfits = c.smaller_of-counter.type_inv }),
+      c.smaller_of-counter.ensures,
+      to_z-of_z (record { sfits = c.before.sum.type_inv }),
+      to_z-of_z s.ranges.hit_counter_max,
       c.before.sum.ensures,
       hit_kept s.requires.0,
-      to_z-of_z (record { sfits = c.before.before.before.doubled.type-inv }),
+      to_z-of_z (record { sfits = c.before.before.before.doubled.type_inv }),
       c.before.before.before.doubled.ensures,
     )
 
@@ -43,28 +43,28 @@ both-requires c κs = search rules
 
 due : (c : tie.After-both) →
     let s = c.before.before.before.before.before in
-    c.both.result ≡ promotes s.args.period s.args.hit-counter-max s.args.delay s.args.l
+    c.both.result ≡ promotes s.args.period s.args.hit_counter_max s.args.delay s.args.l
 due c = c.both.ensures ∙ rw (to_z-of_z c.before.before.before.before.before.ranges.delay, counter c.before)
 
 cleared-requires : tie.Need-cleared-requires
 cleared-requires c κs = search rules
 
+returns-then-both : tie.Need-returns-then-both
+unfolding life_hit
+returns-then-both c = rw (counter c.before.before.before, c.cleared.ensures, sym (due c.before.before) ∙ c.before.if-both.true)
+
 returns : tie.Need-returns
 unfolding life_hit
-returns c = rw (counter c.before.before.before, c.cleared.ensures, sym (due c.before.before) ∙ c.before.if1.true)
+returns c = rw (counter c.before.before, sym (due c.before) ∙ c.if-both.false)
 
-returns-2 : tie.Need-returns-2
-unfolding life_hit
-returns-2 c = rw (counter c.before.before, sym (due c.before) ∙ c.if1.false)
-
-pub hit-life-spec : {M : Type 1} → statement M
-hit-life-spec =
+pub hit_life_spec : {M : Type 1} → statement M
+hit_life_spec =
     tie.close
     (tie.spec
     doubled-requires
     sum-requires
-    smaller-of-requires
+    smaller_of-counter-requires
     both-requires
     cleared-requires
-    returns
-    returns-2)
+    returns-then-both
+    returns)

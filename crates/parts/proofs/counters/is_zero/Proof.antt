@@ -19,5 +19,5 @@ bits-of-zero (negsuc n) h = ne_eqb (of_z w32 (negsuc n)) 0 (λ (e : of_z w32 (ne
 returns : tie.Need-returns
 returns c = bits-of-zero c.args.z c.ranges.z
 
-pub is-zero-spec : {M : Type 1} → statement M
-is-zero-spec = tie.close (tie.spec returns)
+pub is_zero_spec : {M : Type 1} → statement M
+is_zero_spec = tie.close (tie.spec returns)

@@ -8,8 +8,8 @@ use Rattle.parts.specs.declared.ReidCounter.TheVariants.{Absent}
 use Rattle.parts.proofs.counters.merge_life.Statement.{statement}
 use Rattle.parts.proofs.counters.merge_life.Tie as tie
 
-doubled-requires : tie.Need-doubled-requires
-doubled-requires c κs = search rules
+doubled-revived-requires : tie.Need-doubled-revived-requires
+doubled-revived-requires c κs = search rules
 
 -- a life with this counter, back from ReID
 abbrev with-counter : Life → ℤ → Life
@@ -17,7 +17,7 @@ with-counter l z =
     record { age = l.age; hit_counter = z; reid_hit_counter = Absent; is_initializing = l.is_initializing; id = l.id }
 
 returns : tie.Need-returns
-returns c = ap (with-counter c.before.args.l) (to_z-of_z (record { sfits = c.doubled.type-inv }) ∙ c.doubled.ensures)
+returns c = ap (with-counter c.before.args.l) (to_z-of_z (record { sfits = c.doubled-revived.type_inv }) ∙ c.doubled-revived.ensures)
 
-pub merge-life-spec : {M : Type 1} → statement M
-merge-life-spec = tie.close (tie.spec doubled-requires returns)
+pub merge_life_spec : {M : Type 1} → statement M
+merge_life_spec = tie.close (tie.spec doubled-revived-requires returns)

@@ -15,29 +15,29 @@ use Rattle.parts.specs.Life.{life_opened, is_zero}
 use Rattle.parts.proofs.counters.open_life.Statement.{statement}
 use Rattle.parts.proofs.counters.open_life.Tie as tie
 
-cast-hit-counter : tie.Need-overflow-cast-hit-counter
-cast-hit-counter c = search rules
+overflow_cast-hit_counter : tie.Need-overflow_cast-hit_counter
+overflow_cast-hit_counter c = search rules
 
-is-zero-requires : tie.Need-is-zero-requires
-is-zero-requires c κs = search rules
+is_zero-requires : tie.Need-is_zero-requires
+is_zero-requires c κs = search rules
 
 kept : (c : tie.Start) → to_z w32 c.args.period ≡ pos c.args.period
 kept c = to_z_pos w32 (omega arith)
 
-at_once : (c : tie.After-is-zero) → is_zero c.before.args.delay ≡ c.is_zero.result
+at_once : (c : tie.After-is_zero) → is_zero c.before.args.delay ≡ c.is_zero.result
 at_once c = sym (rw (to_z-of_z c.before.ranges.delay) at c.is_zero.ensures)
 
 -- a new life with this counter
 abbrev opened : Bool → PermanentId → ℤ → Life
 opened b id z = record { age = 0; hit_counter = z; reid_hit_counter = Absent; is_initializing = b; id = id }
 
+returns-then-is_zero : tie.Need-returns-then-is_zero
+unfolding life_opened
+returns-then-is_zero c = rw (at_once c.before ∙ c.if-is_zero.true) (ap (opened false (Issued c.before.before.args.next_id)) (kept c.before.before))
+
 returns : tie.Need-returns
 unfolding life_opened
-returns c = rw (at_once c.before ∙ c.if1.true) (ap (opened false (Issued c.before.before.args.next-id)) (kept c.before.before))
+returns c = rw (at_once c.before ∙ c.if-is_zero.false) (ap (opened true Unissued) (kept c.before.before))
 
-returns-2 : tie.Need-returns-2
-unfolding life_opened
-returns-2 c = rw (at_once c.before ∙ c.if1.false) (ap (opened true Unissued) (kept c.before.before))
-
-pub open-life-spec : {M : Type 1} → statement M
-open-life-spec = tie.close (tie.spec cast-hit-counter is-zero-requires returns returns-2)
+pub open_life_spec : {M : Type 1} → statement M
+open_life_spec = tie.close (tie.spec overflow_cast-hit_counter is_zero-requires returns-then-is_zero returns)

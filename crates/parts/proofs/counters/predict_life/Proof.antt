@@ -7,53 +7,53 @@ use Rattle.parts.proofs.Kept.{hit_kept}
 use Rattle.parts.proofs.counters.predict_life.Statement.{statement}
 use Rattle.parts.proofs.counters.predict_life.Tie as tie
 
-enum-known-counter : tie.Need-enum-known-counter
-enum-known-counter c = search rules
+enum_known-counter : tie.Need-enum_known-counter
+enum_known-counter c = search rules
 
-enum_told : tie.Need-enum-told
-enum_told c = search rules
+enum_told-1 : tie.Need-enum_told-1
+enum_told-1 c = search rules
 
 started-requires : tie.Need-started-requires
 started-requires c κs = search rules
 
-aged-with-requires : tie.Need-aged-with-requires
-aged-with-requires c κs = search rules
+aged_with-requires : tie.Need-aged_with-requires
+aged_with-requires c κs = search rules
+
+returns-in_default : tie.Need-returns-in_default
+unfolding life_predicted
+returns-in_default c =
+    let s = c.before.before.before.before.before in
+    rw (c.aged_with.ensures, c.before.started.ensures, hit_kept s.requires, c.before.before.before.enum_told-1.given.1)
+
+fallen-requires : tie.Need-fallen-requires
+fallen-requires c κs =
+    rw (to_z-of_z (record { sfits = c.known_told-1.given.0.1 }))
+    (omega (arith, rw c.before.counter-1.given.1 at c.before.before.before.requires.reid_hit_counter))
+
+aged_with-requires-2 : tie.Need-aged_with-requires-2
+aged_with-requires-2 c κs = search rules
 
 returns : tie.Need-returns
 unfolding life_predicted
 returns c =
-    let s = c.before.before.before.before.before in
-    rw (c.aged-with.ensures, c.before.started.ensures, hit_kept s.requires, c.before.before.before.enum_told.given.1)
-
-fallen-requires : tie.Need-fallen-requires
-fallen-requires c κs =
-    rw (to_z-of_z (record { sfits = c.known-told.given.0.1 }))
-    (omega (arith, rw c.before.counter.given.1 at c.before.before.before.requires.reid_hit_counter))
-
-aged-with-requires-2 : tie.Need-aged-with-requires-2
-aged-with-requires-2 c κs = search rules
-
-returns-2 : tie.Need-returns-2
-unfolding life_predicted
-returns-2 c =
     let told = c.before.before in
     rw (
-      c.aged-with2.ensures,
-      to_z-of_z (record { sfits = c.before.fallen.type-inv }),
+      c.aged_with-2.ensures,
+      to_z-of_z (record { sfits = c.before.fallen.type_inv }),
       c.before.fallen.ensures,
-      to_z-of_z (record { sfits = told.known-told.given.0.1 }),
-      told.before.counter.given.1,
+      to_z-of_z (record { sfits = told.known_told-1.given.0.1 }),
+      told.before.counter-1.given.1,
     )
 
-pub predict-life-spec : {M : Type 1} → statement M
-predict-life-spec =
+pub predict_life_spec : {M : Type 1} → statement M
+predict_life_spec =
     tie.close
     (tie.spec
-    enum-known-counter
-    enum_told
+    enum_known-counter
+    enum_told-1
     started-requires
-    aged-with-requires
-    returns
+    aged_with-requires
+    returns-in_default
     fallen-requires
-    aged-with-requires-2
-    returns-2)
+    aged_with-requires-2
+    returns)

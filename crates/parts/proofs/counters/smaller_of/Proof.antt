@@ -3,11 +3,11 @@ use mir.Facts.{to_z-of_z}
 use Rattle.parts.proofs.counters.smaller_of.Statement.{statement}
 use Rattle.parts.proofs.counters.smaller_of.Tie as tie
 
+returns-then-a-b : tie.Need-returns-then-a-b
+returns-then-a-b c = rw (to_z-of_z c.before.ranges.a, rw (to_z-of_z c.before.ranges.a, to_z-of_z c.before.ranges.b) at c.if-a-b.true)
+
 returns : tie.Need-returns
-returns c = rw (to_z-of_z c.before.ranges.a, rw (to_z-of_z c.before.ranges.a, to_z-of_z c.before.ranges.b) at c.if1.true)
+returns c = rw (to_z-of_z c.before.ranges.b, rw (to_z-of_z c.before.ranges.a, to_z-of_z c.before.ranges.b) at c.if-a-b.false)
 
-returns-2 : tie.Need-returns-2
-returns-2 c = rw (to_z-of_z c.before.ranges.b, rw (to_z-of_z c.before.ranges.a, to_z-of_z c.before.ranges.b) at c.if1.false)
-
-pub smaller-of-spec : {M : Type 1} → statement M
-smaller-of-spec = tie.close (tie.spec returns returns-2)
+pub smaller_of_spec : {M : Type 1} → statement M
+smaller_of_spec = tie.close (tie.spec returns-then-a-b returns)

@@ -3,11 +3,11 @@ use mir.Facts.{to_z-of_z}
 use Rattle.parts.proofs.counters.started.Statement.{statement}
 use Rattle.parts.proofs.counters.started.Tie as tie
 
+returns-then-hit_counter-le0 : tie.Need-returns-then-hit_counter-le0
+returns-then-hit_counter-le0 c = rw (rw (to_z-of_z c.before.ranges.hit_counter) at c.if-hit_counter-le0.true)
+
 returns : tie.Need-returns
-returns c = rw (rw (to_z-of_z c.before.ranges.hit-counter) at c.if1.true)
+returns c = rw (rw (to_z-of_z c.before.ranges.hit_counter) at c.if-hit_counter-le0.false)
 
-returns-2 : tie.Need-returns-2
-returns-2 c = rw (rw (to_z-of_z c.before.ranges.hit-counter) at c.if1.false)
-
-pub started-spec : {M : Type 1} → statement M
-started-spec = tie.close (tie.spec returns returns-2)
+pub started_spec : {M : Type 1} → statement M
+started_spec = tie.close (tie.spec returns-then-hit_counter-le0 returns)

@@ -11,11 +11,11 @@ use Rattle.parts.proofs.counters.sum.Tie as tie
 fits : (c : tie.Start) → SFits w32 (c.args.a +ℤ c.args.b)
 fits c = fits32 (omega (arith, mag_add c.args.a c.args.b))
 
-add-result : tie.Need-overflow-add-result
-add-result c = rw (to_z-of_z c.ranges.a, to_z-of_z c.ranges.b) (fits c)
+overflow_add-result : tie.Need-overflow_add-result
+overflow_add-result c = rw (to_z-of_z c.ranges.a, to_z-of_z c.ranges.b) (fits c)
 
 returns : tie.Need-returns
 returns c = rw (to_z-of_z c.ranges.a, to_z-of_z c.ranges.b, to_z-of_z (fits c))
 
-pub sum-spec : {M : Type 1} → statement M
-sum-spec = tie.close (tie.spec add-result returns)
+pub sum_spec : {M : Type 1} → statement M
+sum_spec = tie.close (tie.spec overflow_add-result returns)

@@ -17,25 +17,25 @@ absent : (z : ℤ) (age most : ℕ) → lt_z z (pos 0) ≡ true → false ≡ is
 absent (pos n) age most h = absurd (omega (arith, ltb-true n 0 h))
 absent (negsuc n) age most h = refl
 
-told : (c : tie.Else1) → c.before.args.oldest ≡ pos (mag c.before.args.oldest)
-told c = not_negative c.before.args.oldest (rw (to_z-of_z c.before.ranges.oldest) at c.if1.false)
+told : (c : tie.Else-oldest-lt0) → c.before.args.oldest ≡ pos (mag c.before.args.oldest)
+told c = not_negative c.before.args.oldest (rw (to_z-of_z c.before.ranges.oldest) at c.if-oldest-lt0.false)
 
-returns : tie.Need-returns
-returns c =
+returns-then-oldest-lt0 : tie.Need-returns-then-oldest-lt0
+returns-then-oldest-lt0 c =
     let a = c.before.args in
-    absent a.oldest a.age a.most (rw (to_z-of_z c.before.ranges.oldest) at c.if1.true)
+    absent a.oldest a.age a.most (rw (to_z-of_z c.before.ranges.oldest) at c.if-oldest-lt0.true)
 
-cast-result : tie.Need-overflow-cast-result
-cast-result c = rw (to_z-of_z c.before.ranges.oldest, told c) (tt, record { fits = omega arith })
+overflow_cast-result : tie.Need-overflow_cast-result
+overflow_cast-result c = rw (to_z-of_z c.before.ranges.oldest, told c) (tt, record { fits = omega arith })
 
-mul-result : tie.Need-overflow-mul-result
-mul-result c =
+overflow_mul-result : tie.Need-overflow_mul-result
+overflow_mul-result c =
     let a = c.before.args in
     let h = mul-le-mul_left {m = a.most} {n = 8} (mag a.oldest) (omega arith) in
     rw (to_z-of_z c.before.ranges.oldest, told c) record { fits = omega arith }
 
-returns-2 : tie.Need-returns-2
-returns-2 c = rw (to_z-of_z c.before.ranges.oldest, told c)
+returns : tie.Need-returns
+returns c = rw (to_z-of_z c.before.ranges.oldest, told c)
 
-pub is-due-spec : {M : Type 1} → statement M
-is-due-spec = tie.close (tie.spec returns cast-result mul-result returns-2)
+pub is_due_spec : {M : Type 1} → statement M
+is_due_spec = tie.close (tie.spec returns-then-oldest-lt0 overflow_cast-result overflow_mul-result returns)

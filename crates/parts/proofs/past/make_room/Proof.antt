@@ -8,35 +8,35 @@ use Rattle.parts.proofs.PastLaws.{all_but_one}
 use Rattle.parts.proofs.past.make_room.Statement.{statement}
 use Rattle.parts.proofs.past.make_room.Tie as tie
 
-history : (c : tie.After-move-down-arg)
+history : (c : tie.After-move_down-arg-1)
     → (c.before.before.before.args.most - 1) * c.before.before.before.args.width + c.before.before.before.args.width
     ≡ c.before.before.before.args.most * c.before.before.before.args.width
 history c = all_but_one c.before.before.before.args.most c.before.before.before.args.width (omega arith)
 
-add-move-down : tie.Need-overflow-add-move-down
-add-move-down c = record { fits = omega (arith, history c) }
+overflow_add-at : tie.Need-overflow_add-at
+overflow_add-at c = record { fits = omega (arith, history c) }
 
-sub-move-down : tie.Need-overflow-sub-move-down
-sub-move-down c = search rules
+overflow_sub-most : tie.Need-overflow_sub-most
+overflow_sub-most c = search rules
 
-mul-move-down : tie.Need-overflow-mul-move-down
-mul-move-down c = record { fits = omega (arith, history c) }
+overflow_mul-most : tie.Need-overflow_mul-most
+overflow_mul-most c = record { fits = omega (arith, history c) }
 
-move-down-requires : tie.Need-move-down-requires
-move-down-requires c κs = omega (arith, history c)
+move_down-requires : tie.Need-move_down-requires
+move_down-requires c κs = omega (arith, history c)
 
-same_length : tie.Need-same-length
-same_length c = search rules
+shape_of-s : tie.Need-shape_of-s
+shape_of-s c = search rules
 
-returns : tie.Need-returns
-returns c =
+returns-then-most-count : tie.Need-returns-then-most-count
+returns-then-most-count c =
     let a = c.before.before.before.before.before.before.args in
     rw (le-ltb a.count a.most (omega arith)) c.before.before.move_down.ensures
 
-returns-2 : tie.Need-returns-2
-returns-2 c = rw (lt-ltb c.before.before.args.count c.before.before.args.most (omega arith))
+returns-else-most-count : tie.Need-returns-else-most-count
+returns-else-most-count c = rw (lt-ltb c.before.before.args.count c.before.before.args.most (omega arith))
 
-pub make-room-spec : {M : Type 1} → statement M
-make-room-spec =
+pub make_room_spec : {M : Type 1} → statement M
+make_room_spec =
     tie.close
-    (tie.spec add-move-down sub-move-down mul-move-down move-down-requires same_length returns returns-2)
+    (tie.spec overflow_add-at overflow_sub-most overflow_mul-most move_down-requires shape_of-s returns-then-most-count returns-else-most-count)

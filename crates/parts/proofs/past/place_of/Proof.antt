@@ -10,31 +10,31 @@ use Rattle.parts.proofs.past.place_of.Tie as tie
 inside : (s : tie.Start) (k : ℕ) → k ≤ s.args.most → s.args.at + k * s.args.width < 65536
 inside s k h = omega (arith, mul-le-mul_right {m = k} {n = s.args.most} s.args.width h)
 
-mul-result : tie.Need-overflow-mul-result
-mul-result c = record { fits = omega (arith, inside c.before c.before.args.count (omega arith)) }
+overflow_mul-result : tie.Need-overflow_mul-result
+overflow_mul-result c = record { fits = omega (arith, inside c.before c.before.args.count (omega arith)) }
 
-add-result : tie.Need-overflow-add-result
-add-result c = record { fits = omega (arith, inside c.before c.before.args.count (omega arith)) }
+overflow_add-result : tie.Need-overflow_add-result
+overflow_add-result c = record { fits = omega (arith, inside c.before c.before.args.count (omega arith)) }
 
-returns : tie.Need-returns
-returns c =
+returns-then-count-most : tie.Need-returns-then-count-most
+returns-then-count-most c =
     let e : min c.before.args.count (c.before.args.most - 1) ≡ c.before.args.count = omega arith in
     rw e
 
-sub-result : tie.Need-overflow-sub-result
-sub-result c = search rules
+overflow_sub-result : tie.Need-overflow_sub-result
+overflow_sub-result c = search rules
 
-mul-result-2 : tie.Need-overflow-mul-result-2
-mul-result-2 c = record { fits = omega (arith, inside c.before (c.before.args.most - 1) (omega arith)) }
+overflow_mul-result-2 : tie.Need-overflow_mul-result-2
+overflow_mul-result-2 c = record { fits = omega (arith, inside c.before (c.before.args.most - 1) (omega arith)) }
 
-add-result-2 : tie.Need-overflow-add-result-2
-add-result-2 c = record { fits = omega (arith, inside c.before (c.before.args.most - 1) (omega arith)) }
+overflow_add-result-2 : tie.Need-overflow_add-result-2
+overflow_add-result-2 c = record { fits = omega (arith, inside c.before (c.before.args.most - 1) (omega arith)) }
 
-returns-2 : tie.Need-returns-2
-returns-2 c =
+returns : tie.Need-returns
+returns c =
     let e : min c.before.args.count (c.before.args.most - 1) ≡ c.before.args.most - 1 = omega arith in
     rw e
 
-pub place-of-spec : {M : Type 1} → statement M
-place-of-spec =
-    tie.close (tie.spec mul-result add-result returns sub-result mul-result-2 add-result-2 returns-2)
+pub place_of_spec : {M : Type 1} → statement M
+place_of_spec =
+    tie.close (tie.spec overflow_mul-result overflow_add-result returns-then-count-most overflow_sub-result overflow_mul-result-2 overflow_add-result-2 returns)

@@ -9,49 +9,49 @@ use Rattle.laws.proofs.Pasting.{paste-one}
 use Rattle.parts.proofs.past.push_mark.Statement.{statement}
 use Rattle.parts.proofs.past.push_mark.Tie as tie
 
-mul_next : tie.Need-overflow-mul-next
-mul_next c = search rules
+offset_bounds-next-count : tie.Need-offset_bounds-next-count
+offset_bounds-next-count c = search rules
 
-array-set-from-next : tie.Need-array-set-from-next
-array-set-from-next c = search rules
+bounds-next-count : tie.Need-bounds-next-count
+bounds-next-count c = search rules
 
-returns : tie.Need-returns
-returns c =
+returns-then-count-most : tie.Need-returns-then-count-most
+returns-then-count-most c =
     let a = c.before.args in
     let n : length a.past ≡ 8 = search rules in
     let place : 0 + min a.count (a.most - 1) * 1 ≡ a.count = omega arith in
     rw (lt-ltb a.count a.most (omega arith), place) (paste-one a.past a.count a.entry (omega arith))
 
-shifted-requires : tie.Need-shifted-requires
-shifted-requires c κs = search rules
+shifted-next-requires : tie.Need-shifted-next-requires
+shifted-next-requires c κs = search rules
 
-sub-next : tie.Need-overflow-sub-next
-sub-next c = search rules
+overflow_sub-next : tie.Need-overflow_sub-next
+overflow_sub-next c = search rules
 
-mul-next-2 : tie.Need-overflow-mul-next-2
-mul-next-2 c = search rules
+offset_bounds-next-most : tie.Need-offset_bounds-next-most
+offset_bounds-next-most c = search rules
 
-array-set-from-next-2 : tie.Need-array-set-from-next-2
-array-set-from-next-2 c = search rules
+bounds-next-most : tie.Need-bounds-next-most
+bounds-next-most c = search rules
 
-returns-2 : tie.Need-returns-2
-returns-2 c =
+returns : tie.Need-returns
+returns c =
     let a = c.before.before.args in
-    let n : length c.shifted.result ≡ 8 = search rules in
+    let n : length c.shifted-next.result ≡ 8 = search rules in
     let place : 0 + min a.count (a.most - 1) * 1 ≡ a.most - 1 = omega arith in
     let moved : (a.most - 1) * 1 ≡ a.most - 1 = omega arith in
-    rw (le-ltb a.count a.most (omega arith), place, moved, ← c.shifted.ensures)
-    (paste-one c.shifted.result (a.most - 1) a.entry (omega arith))
+    rw (le-ltb a.count a.most (omega arith), place, moved, ← c.shifted-next.ensures)
+    (paste-one c.shifted-next.result (a.most - 1) a.entry (omega arith))
 
-pub push-mark-spec : {M : Type 1} → statement M
-push-mark-spec =
+pub push_mark_spec : {M : Type 1} → statement M
+push_mark_spec =
     tie.close
     (tie.spec
-    mul_next
-    array-set-from-next
-    returns
-    shifted-requires
-    sub-next
-    mul-next-2
-    array-set-from-next-2
-    returns-2)
+    offset_bounds-next-count
+    bounds-next-count
+    returns-then-count-most
+    shifted-next-requires
+    overflow_sub-next
+    offset_bounds-next-most
+    bounds-next-most
+    returns)

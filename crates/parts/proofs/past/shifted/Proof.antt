@@ -12,63 +12,63 @@ use Rattle.parts.specs.declared.PastDetection.{PastDetection}
 use Rattle.parts.proofs.past.shifted.Statement.{statement}
 use Rattle.parts.proofs.past.shifted.Tie as tie
 
-abbrev invariant-loop : tie.invariant-loop
-invariant-loop most past₀ i₀ past i = (1 ≤ i) × (i ≤ most) × (length past₀ ≡ 8) × (past ≡ paste past₀ 0 (drop 1 past₀) (i - 1))
+abbrev invariant-loop-i : tie.invariant-loop-i
+invariant-loop-i most past₀ i₀ past i = (1 ≤ i) × (i ≤ most) × (length past₀ ≡ 8) × (past ≡ paste past₀ 0 (drop 1 past₀) (i - 1))
 
-abbrev decreases-loop : tie.decreases-loop
-decreases-loop most past₀ i₀ past i = most - i
+abbrev decreases-loop-i : tie.decreases-loop-i
+decreases-loop-i most past₀ i₀ past i = most - i
 
-loop-holds : tie.Need-loop-init invariant-loop decreases-loop
-loop-holds c = (search rules, search rules, search rules, refl)
+loop-i-init : tie.Need-loop-i-init invariant-loop-i decreases-loop-i
+loop-i-init c = (search rules, search rules, search rules, refl)
 
-mul-past : tie.Need-overflow-mul-past invariant-loop decreases-loop
-mul-past c = search rules
+offset_bounds-past-i : tie.Need-offset_bounds-past-i invariant-loop-i decreases-loop-i
+offset_bounds-past-i c = search rules
 
-array-copy-out-past : tie.Need-array-copy-out-past invariant-loop decreases-loop
-array-copy-out-past c = search rules
+bounds-past-i : tie.Need-bounds-past-i invariant-loop-i decreases-loop-i
+bounds-past-i c = search rules
 
-sub-past : tie.Need-overflow-sub-past invariant-loop decreases-loop
-sub-past c = search rules
+overflow_sub-past : tie.Need-overflow_sub-past invariant-loop-i decreases-loop-i
+overflow_sub-past c = search rules
 
-mul-past-2 : tie.Need-overflow-mul-past-2 invariant-loop decreases-loop
-mul-past-2 c = search rules
+offset_bounds-past-i-in-loop-i : tie.Need-offset_bounds-past-i-in-loop-i invariant-loop-i decreases-loop-i
+offset_bounds-past-i-in-loop-i c = search rules
 
-array-set-from-past : tie.Need-array-set-from-past invariant-loop decreases-loop
-array-set-from-past c = search rules
+bounds-past-i-in-loop-i : tie.Need-bounds-past-i-in-loop-i invariant-loop-i decreases-loop-i
+bounds-past-i-in-loop-i c = search rules
 
-add-i : tie.Need-overflow-add-i invariant-loop decreases-loop
-add-i c = search rules
+overflow_add-i : tie.Need-overflow_add-i invariant-loop-i decreases-loop-i
+overflow_add-i c = search rules
 
-loop-less : tie.Need-loop-smaller invariant-loop decreases-loop
-loop-less c = search rules
+loop-i-smaller : tie.Need-loop-i-smaller invariant-loop-i decreases-loop-i
+loop-i-smaller c = search rules
 
-loop-again : tie.Need-loop-preserved invariant-loop decreases-loop
-loop-again c =
-    let past₀ = c.before.before.before.args.t1 in
-    let loop = c.before.before.loop in
+loop-i-preserved : tie.Need-loop-i-preserved invariant-loop-i decreases-loop-i
+loop-i-preserved c =
+    let past₀ = c.before.before.before.args.past in
+    let loop = c.before.before.loop-i in
     let e : suc (loop.i - 1) ≡ loop.i + 1 - 1 = omega arith in
     let none : PastDetection = record { age = pos 0; has_scores = false } in
     let turn = move_suc past₀ 0 1 (loop.i - 1) (loop.i - 1) loop.i none (omega arith) (omega arith) (omega arith) (omega arith) in
     (search rules, search rules, loop.invariant.2, rw loop.invariant.3 (rw e at turn))
 
-returns : tie.Need-returns invariant-loop decreases-loop
+returns : tie.Need-returns invariant-loop-i decreases-loop-i
 returns c =
-    let e : c.before.loop.i ≡ c.before.before.args.most = omega arith in
-    rw e at c.before.loop.invariant.3
+    let e : c.before.loop-i.i ≡ c.before.before.args.most = omega arith in
+    rw e at c.before.loop-i.invariant.3
 
-pub shifted-spec : {M : Type 1} → statement M
-shifted-spec =
+pub shifted_spec : {M : Type 1} → statement M
+shifted_spec =
     tie.close
     (tie.spec
-    invariant-loop
-    decreases-loop
-    loop-holds
-    mul-past
-    array-copy-out-past
-    sub-past
-    mul-past-2
-    array-set-from-past
-    add-i
-    loop-less
-    loop-again
+    invariant-loop-i
+    decreases-loop-i
+    loop-i-init
+    offset_bounds-past-i
+    bounds-past-i
+    overflow_sub-past
+    offset_bounds-past-i-in-loop-i
+    bounds-past-i-in-loop-i
+    overflow_add-i
+    loop-i-smaller
+    loop-i-preserved
     returns)

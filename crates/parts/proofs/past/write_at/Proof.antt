@@ -11,65 +11,65 @@ use lib.Seq.{paste, paste-zero, paste-suc}
 use Rattle.parts.proofs.past.write_at.Statement.{statement}
 use Rattle.parts.proofs.past.write_at.Tie as tie
 
-abbrev invariant-loop : tie.invariant-loop
-invariant-loop s₀ at src n i₀ s i = (i ≤ n) × (length s ≡ length s₀) × (s ≡ paste s₀ at src i)
+abbrev invariant-loop-i : tie.invariant-loop-i
+invariant-loop-i s₀ at src n i₀ s i = (i ≤ n) × (length s ≡ length s₀) × (s ≡ paste s₀ at src i)
 
-abbrev decreases-loop : tie.decreases-loop
-decreases-loop s₀ at src n i₀ s i = n - i
+abbrev decreases-loop-i : tie.decreases-loop-i
+decreases-loop-i s₀ at src n i₀ s i = n - i
 
-loop-holds : tie.Need-loop-init invariant-loop decreases-loop
-loop-holds c = (search rules, refl, paste-zero c.args.s.now c.args.at c.args.src.now)
+loop-i-init : tie.Need-loop-i-init invariant-loop-i decreases-loop-i
+loop-i-init c = (search rules, refl, paste-zero c.args.s.now c.args.at c.args.src.now)
 
-mul-s : tie.Need-overflow-mul-s invariant-loop decreases-loop
-mul-s c = search rules
+offset_bounds-src-i : tie.Need-offset_bounds-src-i invariant-loop-i decreases-loop-i
+offset_bounds-src-i c = search rules
 
-shared-slice-read-s : tie.Need-shared-slice-read-s invariant-loop decreases-loop
-shared-slice-read-s c = search rules
+bounds-src-i : tie.Need-bounds-src-i invariant-loop-i decreases-loop-i
+bounds-src-i c = search rules
 
-add-s : tie.Need-overflow-add-s invariant-loop decreases-loop
-add-s c = search rules
+overflow_add-s : tie.Need-overflow_add-s invariant-loop-i decreases-loop-i
+overflow_add-s c = search rules
 
-mul-s-2 : tie.Need-overflow-mul-s-2 invariant-loop decreases-loop
-mul-s-2 c = search rules
+offset_bounds-s-at : tie.Need-offset_bounds-s-at invariant-loop-i decreases-loop-i
+offset_bounds-s-at c = search rules
 
-slice-write-s : tie.Need-slice-write-s invariant-loop decreases-loop
-slice-write-s c = search rules
+bounds-s-at : tie.Need-bounds-s-at invariant-loop-i decreases-loop-i
+bounds-s-at c = search rules
 
-add-i : tie.Need-overflow-add-i invariant-loop decreases-loop
-add-i c = search rules
+overflow_add-i : tie.Need-overflow_add-i invariant-loop-i decreases-loop-i
+overflow_add-i c = search rules
 
-loop-less : tie.Need-loop-smaller invariant-loop decreases-loop
-loop-less c = search rules
+loop-i-smaller : tie.Need-loop-i-smaller invariant-loop-i decreases-loop-i
+loop-i-smaller c = search rules
 
-loop-again : tie.Need-loop-preserved invariant-loop decreases-loop
-loop-again c =
+loop-i-preserved : tie.Need-loop-i-preserved invariant-loop-i decreases-loop-i
+loop-i-preserved c =
     let a = c.before.before.before.args in
-    let loop = c.before.before.loop in (
+    let loop = c.before.before.loop-i in (
       search rules,
       simp length-set loop.invariant.1,
       rw (add-one, loop.invariant.2) (paste-suc a.s.now a.at a.src.now loop.i nan (omega arith) (omega arith)),
     )
 
-same_length : tie.Need-same-length invariant-loop decreases-loop
-same_length c = search rules
+shape_of-s : tie.Need-shape_of-s invariant-loop-i decreases-loop-i
+shape_of-s c = search rules
 
-returns : tie.Need-returns invariant-loop decreases-loop
-returns c = rw (le_antisymm c.before.loop.invariant.0 c.loop-test.false) at c.before.loop.invariant.2
+returns : tie.Need-returns invariant-loop-i decreases-loop-i
+returns c = rw (le_antisymm c.before.loop-i.invariant.0 c.loop-i-test.false) at c.before.loop-i.invariant.2
 
-pub write-at-spec : {M : Type 1} → statement M
-write-at-spec =
+pub write_at_spec : {M : Type 1} → statement M
+write_at_spec =
     tie.close
     (tie.spec
-    invariant-loop
-    decreases-loop
-    loop-holds
-    mul-s
-    shared-slice-read-s
-    add-s
-    mul-s-2
-    slice-write-s
-    add-i
-    loop-less
-    loop-again
-    same_length
+    invariant-loop-i
+    decreases-loop-i
+    loop-i-init
+    offset_bounds-src-i
+    bounds-src-i
+    overflow_add-s
+    offset_bounds-s-at
+    bounds-s-at
+    overflow_add-i
+    loop-i-smaller
+    loop-i-preserved
+    shape_of-s
     returns)

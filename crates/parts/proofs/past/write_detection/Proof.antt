@@ -5,26 +5,26 @@ use Rattle.laws.proofs.Pasting.{paste-append}
 use Rattle.parts.proofs.past.write_detection.Statement.{statement}
 use Rattle.parts.proofs.past.write_detection.Tie as tie
 
-write-at-requires : tie.Need-write-at-requires
-write-at-requires c κs = search rules
+write_at-requires : tie.Need-write_at-requires
+write_at-requires c κs = search rules
 
-add-write-at : tie.Need-overflow-add-write-at
-add-write-at c = search rules
+overflow_add-at : tie.Need-overflow_add-at
+overflow_add-at c = search rules
 
-write-at-requires-2 : tie.Need-write-at-requires-2
-write-at-requires-2 c κs = search rules
+write_at-requires-2 : tie.Need-write_at-requires-2
+write_at-requires-2 c κs = search rules
 
-same_length : tie.Need-same-length
-same_length c = search rules
+shape_of-s : tie.Need-shape_of-s
+shape_of-s c = search rules
 
 returns : tie.Need-returns
 returns c =
     let s = c.before.before.before.before.before.before.before.before.before.before.before in
     let a = s.args in
-    c.before.before.write-at2.ensures
-    ∙ rw c.before.before.before.before.before.before.write-at.ensures
-    (paste-append a.s.now a.at a.points.now a.scores.now a.n a.p s.requires.1 s.requires.0)
+    c.before.before.write_at-2.ensures
+    ∙ rw c.before.before.before.before.before.before.write_at.ensures
+    (paste-append a.s-1.now a.at a.points.now a.scores.now a.n a.p s.requires.1 s.requires.0)
 
-pub write-detection-spec : {M : Type 1} → statement M
-write-detection-spec =
-    tie.close (tie.spec write-at-requires add-write-at write-at-requires-2 same_length returns)
+pub write_detection_spec : {M : Type 1} → statement M
+write_detection_spec =
+    tie.close (tie.spec write_at-requires overflow_add-at write_at-requires-2 shape_of-s returns)

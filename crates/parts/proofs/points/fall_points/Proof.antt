@@ -10,59 +10,59 @@ use Rattle.parts.specs.Points.{points_fallen}
 use Rattle.parts.proofs.points.fall_points.Statement.{statement}
 use Rattle.parts.proofs.points.fall_points.Tie as tie
 
-abbrev invariant-loop : tie.invariant-loop
-invariant-loop n counters₀ i₀ counters i = (i ≤ n) × (counters ≡ points_fallen i counters₀)
+abbrev invariant-loop-i : tie.invariant-loop-i
+invariant-loop-i n counters₀ i₀ counters i = (i ≤ n) × (counters ≡ points_fallen i counters₀)
 
-abbrev decreases-loop : tie.decreases-loop
-decreases-loop n counters₀ i₀ counters i = n - i
+abbrev decreases-loop-i : tie.decreases-loop-i
+decreases-loop-i n counters₀ i₀ counters i = n - i
 
-loop-holds : tie.Need-loop-init invariant-loop decreases-loop
+loop-i-init : tie.Need-loop-i-init invariant-loop-i decreases-loop-i
 unfolding points_fallen turns
-loop-holds c = (search rules, refl)
+loop-i-init c = (search rules, refl)
 
-mul-lowered : tie.Need-overflow-mul-lowered invariant-loop decreases-loop
-mul-lowered c = search rules
+offset_bounds-counters-i : tie.Need-offset_bounds-counters-i invariant-loop-i decreases-loop-i
+offset_bounds-counters-i c = search rules
 
-array-read-lowered : tie.Need-array-read-lowered invariant-loop decreases-loop
-array-read-lowered c = search rules
+bounds-counters-i : tie.Need-bounds-counters-i invariant-loop-i decreases-loop-i
+bounds-counters-i c = search rules
 
-lowered-requires : tie.Need-lowered-requires invariant-loop decreases-loop
+lowered-requires : tie.Need-lowered-requires invariant-loop-i decreases-loop-i
 lowered-requires c κs = search rules
 
-mul-counters : tie.Need-overflow-mul-counters invariant-loop decreases-loop
-mul-counters c = search rules
+offset_bounds-counters-i-in-loop-i : tie.Need-offset_bounds-counters-i-in-loop-i invariant-loop-i decreases-loop-i
+offset_bounds-counters-i-in-loop-i c = search rules
 
-array-write-counters : tie.Need-array-write-counters invariant-loop decreases-loop
-array-write-counters c = search rules
+bounds-counters-i-in-loop-i : tie.Need-bounds-counters-i-in-loop-i invariant-loop-i decreases-loop-i
+bounds-counters-i-in-loop-i c = search rules
 
-add-i : tie.Need-overflow-add-i invariant-loop decreases-loop
-add-i c = search rules
+overflow_add-i : tie.Need-overflow_add-i invariant-loop-i decreases-loop-i
+overflow_add-i c = search rules
 
-loop-less : tie.Need-loop-smaller invariant-loop decreases-loop
-loop-less c = search rules
+loop-i-smaller : tie.Need-loop-i-smaller invariant-loop-i decreases-loop-i
+loop-i-smaller c = search rules
 
-loop-again : tie.Need-loop-preserved invariant-loop decreases-loop
+loop-i-preserved : tie.Need-loop-i-preserved invariant-loop-i decreases-loop-i
 unfolding points_fallen
-loop-again c =
-    let loop = c.before.before.loop in
+loop-i-preserved c =
+    let loop = c.before.before.loop-i in
     (search rules, turns_next _ loop.i _ (ap (set loop.counters loop.i) c.lowered.ensures) loop.invariant.1)
 
-returns : tie.Need-returns invariant-loop decreases-loop
-returns c = rw (le_antisymm c.before.loop.invariant.0 c.loop-test.false) at c.before.loop.invariant.1
+returns : tie.Need-returns invariant-loop-i decreases-loop-i
+returns c = rw (le_antisymm c.before.loop-i.invariant.0 c.loop-i-test.false) at c.before.loop-i.invariant.1
 
-pub fall-points-spec : {M : Type 1} → statement M
-fall-points-spec =
+pub fall_points_spec : {M : Type 1} → statement M
+fall_points_spec =
     tie.close
     (tie.spec
-    invariant-loop
-    decreases-loop
-    loop-holds
-    mul-lowered
-    array-read-lowered
+    invariant-loop-i
+    decreases-loop-i
+    loop-i-init
+    offset_bounds-counters-i
+    bounds-counters-i
     lowered-requires
-    mul-counters
-    array-write-counters
-    add-i
-    loop-less
-    loop-again
+    offset_bounds-counters-i-in-loop-i
+    bounds-counters-i-in-loop-i
+    overflow_add-i
+    loop-i-smaller
+    loop-i-preserved
     returns)

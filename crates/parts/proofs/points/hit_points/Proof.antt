@@ -12,85 +12,85 @@ use Rattle.parts.proofs.PointLaws.{hit_in_range}
 use Rattle.parts.proofs.points.hit_points.Statement.{statement}
 use Rattle.parts.proofs.points.hit_points.Tie as tie
 
-abbrev invariant-loop : tie.invariant-loop
-invariant-loop n has-scores threshold scores period maximum counters₀ without i₀ counters i =
+abbrev invariant-loop-i : tie.invariant-loop-i
+invariant-loop-i n has-scores threshold scores period maximum counters₀ without i₀ counters i =
     (i ≤ n) × (counters ≡ points_hit i has-scores threshold scores period maximum counters₀)
 
-abbrev decreases-loop : tie.decreases-loop
-decreases-loop n has-scores threshold scores period maximum counters₀ without i₀ counters i = n - i
+abbrev decreases-loop-i : tie.decreases-loop-i
+decreases-loop-i n has-scores threshold scores period maximum counters₀ without i₀ counters i = n - i
 
-loop-holds : tie.Need-loop-init invariant-loop decreases-loop
+loop-i-init : tie.Need-loop-i-init invariant-loop-i decreases-loop-i
 unfolding points_hit turns
-loop-holds c = (search rules, refl)
+loop-i-init c = (search rules, refl)
 
-mul-is-above : tie.Need-overflow-mul-is-above invariant-loop decreases-loop
-mul-is-above c = search rules
+offset_bounds-scores-i : tie.Need-offset_bounds-scores-i invariant-loop-i decreases-loop-i
+offset_bounds-scores-i c = search rules
 
-shared-slice-read-is-above : tie.Need-shared-slice-read-is-above invariant-loop decreases-loop
-shared-slice-read-is-above c = search rules
+bounds-scores-i : tie.Need-bounds-scores-i invariant-loop-i decreases-loop-i
+bounds-scores-i c = search rules
 
-is-above-requires : tie.Need-is-above-requires invariant-loop decreases-loop
-is-above-requires c κs = search rules
+is_above-requires : tie.Need-is_above-requires invariant-loop-i decreases-loop-i
+is_above-requires c κs = search rules
 
-mul-capped : tie.Need-overflow-mul-capped invariant-loop decreases-loop
-mul-capped c = search rules
+offset_bounds-counters-i : tie.Need-offset_bounds-counters-i invariant-loop-i decreases-loop-i
+offset_bounds-counters-i c = search rules
 
-array-read-capped : tie.Need-array-read-capped invariant-loop decreases-loop
-array-read-capped c = search rules
+bounds-counters-i : tie.Need-bounds-counters-i invariant-loop-i decreases-loop-i
+bounds-counters-i c = search rules
 
-capped-requires : tie.Need-capped-requires invariant-loop decreases-loop
+capped-requires : tie.Need-capped-requires invariant-loop-i decreases-loop-i
 capped-requires c κs =
     let s = c.before.before.before.before.before.before in
-    let loop = c.before.before.before.before.loop in (
-      rw loop.invariant.1 (hit_in_range _ _ _ _ _ _ _ s.requires.3 _ s.requires.4 loop.i c.before.before.before.loop-test.true),
+    let loop = c.before.before.before.before.loop-i in (
+      rw loop.invariant.1 (hit_in_range _ _ _ _ _ _ _ s.requires.3 _ s.requires.4 loop.i c.before.before.before.loop-i-test.true),
       search rules,
     )
 
-mul-counters : tie.Need-overflow-mul-counters invariant-loop decreases-loop
-mul-counters c = search rules
+offset_bounds-counters-i-then-is_above : tie.Need-offset_bounds-counters-i-then-is_above invariant-loop-i decreases-loop-i
+offset_bounds-counters-i-then-is_above c = search rules
 
-array-write-counters : tie.Need-array-write-counters invariant-loop decreases-loop
-array-write-counters c = search rules
+bounds-counters-i-then-is_above : tie.Need-bounds-counters-i-then-is_above invariant-loop-i decreases-loop-i
+bounds-counters-i-then-is_above c = search rules
 
-add-i : tie.Need-overflow-add-i invariant-loop decreases-loop
-add-i c = search rules
+overflow_add-i : tie.Need-overflow_add-i invariant-loop-i decreases-loop-i
+overflow_add-i c = search rules
 
-loop-less : tie.Need-loop-smaller invariant-loop decreases-loop
-loop-less c = search rules
+loop-i-smaller : tie.Need-loop-i-smaller invariant-loop-i decreases-loop-i
+loop-i-smaller c = search rules
 
-loop-again : tie.Need-loop-preserved invariant-loop decreases-loop
+loop-i-preserved : tie.Need-loop-i-preserved invariant-loop-i decreases-loop-i
 unfolding points_hit
-loop-again c =
-    let loop = c.before.before.before.before.loop in
-    let tested = sym c.before.is-above.ensures in (
+loop-i-preserved c =
+    let loop = c.before.before.before.before.loop-i in
+    let tested = sym c.before.is_above.ensures in (
       search rules,
       turns_next _ loop.i _ {b = loop.counters}
           (⊎_elim
           (λ w. rw (tested ∙ w.0.taken) (w.2 ∙ ap (set loop.counters loop.i) w.1.ensures))
           (λ w. rw (tested ∙ w.0.left) w.1)
-          c.if1.branch)
+          c.if-is_above.branch)
           loop.invariant.1,
     )
 
-returns : tie.Need-returns invariant-loop decreases-loop
-returns c = rw (le_antisymm c.before.loop.invariant.0 c.loop-test.false) at c.before.loop.invariant.1
+returns : tie.Need-returns invariant-loop-i decreases-loop-i
+returns c = rw (le_antisymm c.before.loop-i.invariant.0 c.loop-i-test.false) at c.before.loop-i.invariant.1
 
-pub hit-points-spec : {M : Type 1} → statement M
-hit-points-spec =
+pub hit_points_spec : {M : Type 1} → statement M
+hit_points_spec =
     tie.close
     (tie.spec
-    invariant-loop
-    decreases-loop
-    loop-holds
-    mul-is-above
-    shared-slice-read-is-above
-    is-above-requires
-    mul-capped
-    array-read-capped
+    invariant-loop-i
+    decreases-loop-i
+    loop-i-init
+    offset_bounds-scores-i
+    bounds-scores-i
+    is_above-requires
+    offset_bounds-counters-i
+    bounds-counters-i
     capped-requires
-    mul-counters
-    array-write-counters
-    add-i
-    loop-less
-    loop-again
+    offset_bounds-counters-i-then-is_above
+    bounds-counters-i-then-is_above
+    overflow_add-i
+    loop-i-smaller
+    loop-i-preserved
     returns)

@@ -2,11 +2,11 @@
 use Rattle.parts.proofs.points.is_above.Statement.{statement}
 use Rattle.parts.proofs.points.is_above.Tie as tie
 
+returns-then-has_scores : tie.Need-returns-then-has_scores
+returns-then-has_scores c = rw c.if-has_scores.true
+
 returns : tie.Need-returns
-returns c = rw c.if1.true
+returns c = rw c.if-has_scores.false
 
-returns-2 : tie.Need-returns-2
-returns-2 c = rw c.if1.false
-
-pub is-above-spec : {M : Type 1} → statement M
-is-above-spec = tie.close (tie.spec returns returns-2)
+pub is_above_spec : {M : Type 1} → statement M
+is_above_spec = tie.close (tie.spec returns-then-has_scores returns)

@@ -7,14 +7,14 @@ use lib.Dec.{eqb}
 use Rattle.parts.proofs.points.seen.Statement.{statement}
 use Rattle.parts.proofs.points.seen.Tie as tie
 
-cast-result : tie.Need-overflow-cast-result
-cast-result c = search rules
+overflow_cast-result : tie.Need-overflow_cast-result
+overflow_cast-result c = search rules
 
-shr-result : tie.Need-overflow-shr-result
-shr-result c = search rules
+overflow_shr-result : tie.Need-overflow_shr-result
+overflow_shr-result c = search rules
 
 returns : tie.Need-returns
 returns c = ap (λ (b : ℕ). eqb b 1) (and_mask (c.args.flags / 2 ^ c.args.i) 1)
 
-pub seen-spec : {M : Type 1} → statement M
-seen-spec = tie.close (tie.spec cast-result shr-result returns)
+pub seen_spec : {M : Type 1} → statement M
+seen_spec = tie.close (tie.spec overflow_cast-result overflow_shr-result returns)

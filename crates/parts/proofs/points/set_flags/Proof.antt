@@ -10,64 +10,64 @@ use Rattle.parts.specs.Points.{flags_set}
 use Rattle.parts.proofs.points.set_flags.Statement.{statement}
 use Rattle.parts.proofs.points.set_flags.Tie as tie
 
-abbrev invariant-loop : tie.invariant-loop
-invariant-loop flags₀ n has-scores threshold without scores i₀ flags i =
+abbrev invariant-loop-i : tie.invariant-loop-i
+invariant-loop-i flags₀ n has-scores threshold without scores i₀ flags i =
     (i ≤ n) × (flags ≡ flags_set i has-scores threshold without scores flags₀)
 
-abbrev decreases-loop : tie.decreases-loop
-decreases-loop flags₀ n has-scores threshold without scores i₀ flags i = n - i
+abbrev decreases-loop-i : tie.decreases-loop-i
+decreases-loop-i flags₀ n has-scores threshold without scores i₀ flags i = n - i
 
-loop-holds : tie.Need-loop-init invariant-loop decreases-loop
+loop-i-init : tie.Need-loop-i-init invariant-loop-i decreases-loop-i
 unfolding flags_set turns
-loop-holds c = (search rules, refl)
+loop-i-init c = (search rules, refl)
 
-mul-is-above : tie.Need-overflow-mul-is-above invariant-loop decreases-loop
-mul-is-above c = search rules
+offset_bounds-scores-i : tie.Need-offset_bounds-scores-i invariant-loop-i decreases-loop-i
+offset_bounds-scores-i c = search rules
 
-shared-slice-read-is-above : tie.Need-shared-slice-read-is-above invariant-loop decreases-loop
-shared-slice-read-is-above c = search rules
+bounds-scores-i : tie.Need-bounds-scores-i invariant-loop-i decreases-loop-i
+bounds-scores-i c = search rules
 
-is-above-requires : tie.Need-is-above-requires invariant-loop decreases-loop
-is-above-requires c κs = search rules
+is_above-requires : tie.Need-is_above-requires invariant-loop-i decreases-loop-i
+is_above-requires c κs = search rules
 
-set-flag-requires : tie.Need-set-flag-requires invariant-loop decreases-loop
-set-flag-requires c κs = search rules
+set_flag-flags-requires : tie.Need-set_flag-flags-requires invariant-loop-i decreases-loop-i
+set_flag-flags-requires c κs = search rules
 
-add-i : tie.Need-overflow-add-i invariant-loop decreases-loop
-add-i c = search rules
+overflow_add-i : tie.Need-overflow_add-i invariant-loop-i decreases-loop-i
+overflow_add-i c = search rules
 
-loop-less : tie.Need-loop-smaller invariant-loop decreases-loop
-loop-less c = search rules
+loop-i-smaller : tie.Need-loop-i-smaller invariant-loop-i decreases-loop-i
+loop-i-smaller c = search rules
 
-loop-again : tie.Need-loop-preserved invariant-loop decreases-loop
+loop-i-preserved : tie.Need-loop-i-preserved invariant-loop-i decreases-loop-i
 unfolding flags_set
-loop-again c =
-    let loop = c.before.before.before.before.loop in
-    let tested = sym c.before.is-above.ensures in (
+loop-i-preserved c =
+    let loop = c.before.before.before.before.loop-i in
+    let tested = sym c.before.is_above.ensures in (
       search rules,
       turns_next _ loop.i _ {b = loop.flags}
           (⊎_elim
           (λ w. rw (tested ∙ w.0.taken) (w.2 ∙ w.1.ensures))
           (λ w. rw (tested ∙ w.0.left) w.1)
-          c.if1.branch)
+          c.if-is_above.branch)
           loop.invariant.1,
     )
 
-returns : tie.Need-returns invariant-loop decreases-loop
-returns c = rw (le_antisymm c.before.loop.invariant.0 c.loop-test.false) at c.before.loop.invariant.1
+returns : tie.Need-returns invariant-loop-i decreases-loop-i
+returns c = rw (le_antisymm c.before.loop-i.invariant.0 c.loop-i-test.false) at c.before.loop-i.invariant.1
 
-pub set-flags-spec : {M : Type 1} → statement M
-set-flags-spec =
+pub set_flags_spec : {M : Type 1} → statement M
+set_flags_spec =
     tie.close
     (tie.spec
-    invariant-loop
-    decreases-loop
-    loop-holds
-    mul-is-above
-    shared-slice-read-is-above
-    is-above-requires
-    set-flag-requires
-    add-i
-    loop-less
-    loop-again
+    invariant-loop-i
+    decreases-loop-i
+    loop-i-init
+    offset_bounds-scores-i
+    bounds-scores-i
+    is_above-requires
+    set_flag-flags-requires
+    overflow_add-i
+    loop-i-smaller
+    loop-i-preserved
     returns)

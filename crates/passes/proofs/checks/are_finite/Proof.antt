@@ -16,62 +16,62 @@ use Rattle.passes.proofs.checks.are_finite.Tie as tie
 abbrev bad : Float → Bool
 bad x = not (finite x)
 
-abbrev invariant-loop : tie.invariant-loop
-invariant-loop points n i₀ i = (i ≤ n) × (any bad points ≡ any bad (drop i points))
+abbrev invariant-loop-i : tie.invariant-loop-i
+invariant-loop-i points n i₀ i = (i ≤ n) × (any bad points ≡ any bad (drop i points))
 
-abbrev decreases-loop : tie.decreases-loop
-decreases-loop points n i₀ i = n - i
+abbrev decreases-loop-i : tie.decreases-loop-i
+decreases-loop-i points n i₀ i = n - i
 
-loop-holds : tie.Need-loop-init invariant-loop decreases-loop
-loop-holds c = (search rules, refl)
+loop-i-init : tie.Need-loop-i-init invariant-loop-i decreases-loop-i
+loop-i-init c = (search rules, refl)
 
-mul-is-finite : tie.Need-overflow-mul-is-finite invariant-loop decreases-loop
-mul-is-finite c = search rules
+offset_bounds-points-i : tie.Need-offset_bounds-points-i invariant-loop-i decreases-loop-i
+offset_bounds-points-i c = search rules
 
-shared-slice-read-is-finite : tie.Need-shared-slice-read-is-finite invariant-loop decreases-loop
-shared-slice-read-is-finite c = search rules
+bounds-points-i : tie.Need-bounds-points-i invariant-loop-i decreases-loop-i
+bounds-points-i c = search rules
 
-is-finite-requires : tie.Need-is-finite-requires invariant-loop decreases-loop
-is-finite-requires c κs = search rules
+is_finite-requires : tie.Need-is_finite-requires invariant-loop-i decreases-loop-i
+is_finite-requires c κs = search rules
 
 -- what the call says of the coordinate that the code read
-answered : (c : tie.After-is-finite invariant-loop decreases-loop)
-    → bad (get_or c.before.before.before.before.before.args.points.now c.before.before.before.loop.i nan) ≡ not c.is_finite.result
+answered : (c : tie.After-is_finite invariant-loop-i decreases-loop-i)
+    → bad (get_or c.before.before.before.before.before.args.points.now c.before.before.before.loop-i.i nan) ≡ not c.is_finite.result
 answered c = ap not (sym c.is_finite.ensures)
 
-returns : tie.Need-returns invariant-loop decreases-loop
-returns c =
+returns-then-not-is_finite : tie.Need-returns-then-not-is_finite invariant-loop-i decreases-loop-i
+returns-then-not-is_finite c =
     let points = c.before.before.before.before.before.before.args.points.now in
-    let loop = c.before.before.before.before.loop in
-    sym (ap not (loop.invariant.1 ∙ any_here bad points loop.i nan (omega arith) (answered c.before ∙ c.if1.true)))
+    let loop = c.before.before.before.before.loop-i in
+    sym (ap not (loop.invariant.1 ∙ any_here bad points loop.i nan (omega arith) (answered c.before ∙ c.if-not-is_finite.true-raw)))
 
-add-i : tie.Need-overflow-add-i invariant-loop decreases-loop
-add-i c = search rules
+overflow_add-i : tie.Need-overflow_add-i invariant-loop-i decreases-loop-i
+overflow_add-i c = search rules
 
-loop-less : tie.Need-loop-smaller invariant-loop decreases-loop
-loop-less c = search rules
+loop-i-smaller : tie.Need-loop-i-smaller invariant-loop-i decreases-loop-i
+loop-i-smaller c = search rules
 
-loop-again : tie.Need-loop-preserved invariant-loop decreases-loop
-loop-again c =
+loop-i-preserved : tie.Need-loop-i-preserved invariant-loop-i decreases-loop-i
+loop-i-preserved c =
     let points = c.before.before.before.before.before.before.args.points.now in
-    let loop = c.before.before.before.before.loop in
-    (omega arith, rw add-one (loop.invariant.1 ∙ any_on bad points loop.i nan (omega arith) (answered c.before ∙ c.if1.false)))
+    let loop = c.before.before.before.before.loop-i in
+    (omega arith, rw add-one (loop.invariant.1 ∙ any_on bad points loop.i nan (omega arith) (answered c.before ∙ c.if-not-is_finite.false-raw)))
 
-returns-2 : tie.Need-returns-2 invariant-loop decreases-loop
-returns-2 c = sym (ap not (c.before.loop.invariant.1 ∙ any_end bad c.before.before.before.args.points.now c.before.loop.i (omega arith)))
+returns : tie.Need-returns invariant-loop-i decreases-loop-i
+returns c = sym (ap not (c.before.loop-i.invariant.1 ∙ any_end bad c.before.before.before.args.points.now c.before.loop-i.i (omega arith)))
 
-pub are-finite-spec : {M : Type 1} → statement M
-are-finite-spec =
+pub are_finite_spec : {M : Type 1} → statement M
+are_finite_spec =
     tie.close
     (tie.spec
-    invariant-loop
-    decreases-loop
-    loop-holds
-    mul-is-finite
-    shared-slice-read-is-finite
-    is-finite-requires
-    returns
-    add-i
-    loop-less
-    loop-again
-    returns-2)
+    invariant-loop-i
+    decreases-loop-i
+    loop-i-init
+    offset_bounds-points-i
+    bounds-points-i
+    is_finite-requires
+    returns-then-not-is_finite
+    overflow_add-i
+    loop-i-smaller
+    loop-i-preserved
+    returns)

@@ -14,53 +14,53 @@ use Rattle.passes.specs.Checks.{decided_checks}
 use Rattle.passes.proofs.checks.decided_refusal.Statement.{statement}
 use Rattle.passes.proofs.checks.decided_refusal.Tie as tie
 
-are-finite-requires : tie.Need-are-finite-requires
-are-finite-requires c κs = search rules
+are_finite-not_finite-requires : tie.Need-are_finite-not_finite-requires
+are_finite-not_finite-requires c κs = search rules
 
 -- what the call says of the coordinates
-answered : (c : tie.After-are-finite) → any (λ x. not (finite x)) c.before.before.args.points.now ≡ not c.are-finite.result
-answered c = sym (not-not _) ∙ ap not (sym c.are-finite.ensures)
+answered : (c : tie.After-are_finite-not_finite) → any (λ x. not (finite x)) c.before.before.args.points.now ≡ not c.are_finite-not_finite.result
+answered c = sym (not-not _) ∙ ap not (sym c.are_finite-not_finite.ensures)
 
-add-full : tie.Need-overflow-add-full
-add-full c = search rules
+overflow_add-full : tie.Need-overflow_add-full
+overflow_add-full c = search rules
 
-returns : tie.Need-returns
+returns-then-not_finite : tie.Need-returns-then-not_finite
 unfolding first_due
-returns c = rw (answered c.before.before.before, c.if1.true)
+returns-then-not_finite c = rw (answered c.before.before.before, c.if-not_finite.true-raw)
 
-returns-2 : tie.Need-returns-2
+returns-then-full : tie.Need-returns-then-full
 unfolding first_due
-returns-2 c = rw (answered c.before.before.before.before, c.before.if1.false, c.if2.true)
+returns-then-full c = rw (answered c.before.before.before.before, c.before.if-not_finite.false-raw, c.if-full.true-raw)
 
-abbrev given : tie.Else2 → tie.Start
+abbrev given : tie.Else-full → tie.Start
 given c = c.before.before.before.before.before.before
 
 -- the records that will have been opened
-abbrev all : tie.Else2 → ℕ
+abbrev all : tie.Else-full → ℕ
 all c = (given c).args.counts.opened + (given c).args.more
 
 -- the checks that passed
-neither : (c : tie.Else2) →
+neither : (c : tie.Else-full) →
     let a = (given c).args in
     first_due (decided_checks a.config a.counts a.points.now a.more) ≡ first_due (check 14 (ltb 2000000000 (all c)) ∷ [])
 unfolding first_due
-neither c = rw (answered c.before.before.before.before, c.before.if1.false, c.if2.false)
+neither c = rw (answered c.before.before.before.before, c.before.if-not_finite.false-raw, c.if-full.false-raw)
 
-cast-if3 : tie.Need-overflow-cast-if3
-cast-if3 c = search rules
+overflow_cast-more : tie.Need-overflow_cast-more
+overflow_cast-more c = search rules
 
-add-if3 : tie.Need-overflow-add-if3
-add-if3 c = search rules
+overflow_add-counts : tie.Need-overflow_add-counts
+overflow_add-counts c = search rules
 
-returns-3 : tie.Need-returns-3
+returns-then-counts-more-gt2000000000 : tie.Need-returns-then-counts-more-gt2000000000
 unfolding first_due
-returns-3 c = rw (neither c.before.before, lt-ltb 2000000000 (all c.before.before) (omega (arith, c.if3.true)))
+returns-then-counts-more-gt2000000000 c = rw (neither c.before.before, lt-ltb 2000000000 (all c.before.before) (omega (arith, c.if-counts-more-gt2000000000.true)))
 
-returns-4 : tie.Need-returns-4
+returns : tie.Need-returns
 unfolding first_due
-returns-4 c = rw (neither c.before.before, le-ltb 2000000000 (all c.before.before) (omega (arith, c.if3.false)))
+returns c = rw (neither c.before.before, le-ltb 2000000000 (all c.before.before) (omega (arith, c.if-counts-more-gt2000000000.false)))
 
-pub decided-refusal-spec : {M : Type 1} → statement M
-decided-refusal-spec =
+pub decided_refusal_spec : {M : Type 1} → statement M
+decided_refusal_spec =
     tie.close
-    (tie.spec are-finite-requires add-full returns returns-2 cast-if3 add-if3 returns-3 returns-4)
+    (tie.spec are_finite-not_finite-requires overflow_add-full returns-then-not_finite returns-then-full overflow_cast-more overflow_add-counts returns-then-counts-more-gt2000000000 returns)

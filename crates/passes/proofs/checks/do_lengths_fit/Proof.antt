@@ -7,22 +7,22 @@ use borrow.Author.Rules.{rules}
 use Rattle.passes.proofs.checks.do_lengths_fit.Statement.{statement}
 use Rattle.passes.proofs.checks.do_lengths_fit.Tie as tie
 
-layout-of-requires : tie.Need-layout-of-requires
-layout-of-requires c κs = search rules
+layout_of-at-requires : tie.Need-layout_of-at-requires
+layout_of-at-requires c κs = search rules
 
-mul-points : tie.Need-overflow-mul-points
-mul-points c =
+overflow_mul-points : tie.Need-overflow_mul-points
+overflow_mul-points c =
     let s = c.before.before in
-    let few : c.before.layout_of.result.coords ≤ 48 = rw c.before.layout_of.ensures (coords-most s.args.config s.requires.0) in
+    let few : c.before.layout_of-at.result.coords ≤ 48 = rw c.before.layout_of-at.ensures (coords-most s.args.config s.requires.0) in
     record { fits = omega (arith, mul-le-mul s.requires.2 few) }
 
-mul-scores : tie.Need-overflow-mul-scores
-mul-scores c =
+overflow_mul-scores : tie.Need-overflow_mul-scores
+overflow_mul-scores c =
     let s = c.before.before.before.before in
     record { fits = omega (arith, mul-le-mul s.requires.2 s.requires.0.points-most) }
 
-mul-distances : tie.Need-overflow-mul-distances
-mul-distances c =
+overflow_mul-distances : tie.Need-overflow_mul-distances
+overflow_mul-distances c =
     let s = c.before.before.before.before.before.before in
     record { fits = omega (arith, mul-le-mul s.requires.2 s.requires.1) }
 
@@ -36,16 +36,16 @@ both-requires-3 : tie.Need-both-requires-3
 both-requires-3 c κs = search rules
 
 returns : tie.Need-returns
-returns c = rw (c.both3.ensures, c.before.both2.ensures, c.before.before.both.ensures, c.before.before.before.before.before.before.before.before.before.layout_of.ensures)
+returns c = rw (c.both-3.ensures, c.before.both-2.ensures, c.before.before.both.ensures, c.before.before.before.before.before.before.before.before.before.layout_of-at.ensures)
 
-pub do-lengths-fit-spec : {M : Type 1} → statement M
-do-lengths-fit-spec =
+pub do_lengths_fit_spec : {M : Type 1} → statement M
+do_lengths_fit_spec =
     tie.close
     (tie.spec
-    layout-of-requires
-    mul-points
-    mul-scores
-    mul-distances
+    layout_of-at-requires
+    overflow_mul-points
+    overflow_mul-scores
+    overflow_mul-distances
     both-requires
     both-requires-2
     both-requires-3

@@ -7,5 +7,5 @@ use Rattle.passes.proofs.lists.candidates.Tie as tie
 returns : tie.Need-returns
 returns c = search (rules, columns_listed)
 
-pub candidates-spec : {M : Type 1} → statement M
-candidates-spec = tie.close (tie.spec returns)
+pub candidates_spec : {M : Type 1} → statement M
+candidates_spec = tie.close (tie.spec returns)

@@ -16,30 +16,30 @@ use Rattle.passes.specs.Passes.{among}
 use Rattle.passes.proofs.lists.keep_among.Statement.{statement}
 use Rattle.passes.proofs.lists.keep_among.Tie as tie
 
-abbrev invariant-loop : tie.invariant-loop
-invariant-loop list m wanted from n at₀ count₀ i₀ at count i = (i ≤ n) × Stands 64 (keep (among wanted (take m list)) (take i from)) at count
+abbrev invariant-loop-i : tie.invariant-loop-i
+invariant-loop-i list m wanted from n at₀ count₀ i₀ at count i = (i ≤ n) × Stands 64 (keep (among wanted (take m list)) (take i from)) at count
 
-abbrev decreases-loop : tie.decreases-loop
-decreases-loop list m wanted from n at₀ count₀ i₀ at count i = n - i
+abbrev decreases-loop-i : tie.decreases-loop-i
+decreases-loop-i list m wanted from n at₀ count₀ i₀ at count i = n - i
 
-loop-holds : tie.Need-loop-init invariant-loop decreases-loop
+loop-i-init : tie.Need-loop-i-init invariant-loop-i decreases-loop-i
 unfolding keep
-loop-holds c = (search rules, (refl, refl))
+loop-i-init c = (search rules, (refl, refl))
 
-mul-x : tie.Need-overflow-mul-x invariant-loop decreases-loop
-mul-x c = search rules
+offset_bounds-from-i : tie.Need-offset_bounds-from-i invariant-loop-i decreases-loop-i
+offset_bounds-from-i c = search rules
 
-array-read-x : tie.Need-array-read-x invariant-loop decreases-loop
-array-read-x c = search rules
+bounds-from-i : tie.Need-bounds-from-i invariant-loop-i decreases-loop-i
+bounds-from-i c = search rules
 
-is-among-requires : tie.Need-is-among-requires invariant-loop decreases-loop
-is-among-requires c κs = search rules
+is_among-requires : tie.Need-is_among-requires invariant-loop-i decreases-loop-i
+is_among-requires c κs = search rules
 
 -- all 64 places are there
-whole : (s : tie.Start invariant-loop decreases-loop) → length s.args.of.at ≡ 64
-whole s = simp length-map at s.well-formed.0.1.1.0.1.0.1
+whole : (s : tie.Start invariant-loop-i decreases-loop-i) → length s.args.of.at ≡ 64
+whole s = simp length-map at s.well_formed.0.1.1.0.1.0.1
 
-abbrev test : tie.Start invariant-loop decreases-loop → ℕ → Bool
+abbrev test : tie.Start invariant-loop-i decreases-loop-i → ℕ → Bool
 test s = among s.args.wanted (take s.args.m s.args.list.now)
 
 -- `among` is how the code compares
@@ -50,43 +50,43 @@ among-asked false true = refl
 among-asked false false = refl
 
 -- what the call says of the number that the code read
-answered : (c : tie.After-is-among invariant-loop decreases-loop) →
+answered : (c : tie.After-is_among invariant-loop-i decreases-loop-i) →
     let s = c.before.before.before.before.before in
-    test s (get_or s.args.of.at c.before.before.loop.i 0) ≡ beq c.is_among.result s.args.wanted
+    test s (get_or s.args.of.at c.before.before.loop-i.i 0) ≡ beq c.is_among.result s.args.wanted
 answered c =
     let s = c.before.before.before.before.before in
-    rw c.is_among.ensures (among-asked s.args.wanted (holds (get_or s.args.of.at c.before.before.loop.i 0) (take s.args.m s.args.list.now)))
+    rw c.is_among.ensures (among-asked s.args.wanted (holds (get_or s.args.of.at c.before.before.loop-i.i 0) (take s.args.m s.args.list.now)))
 
 -- as many were looked at as turns are done
-looked : (s : tie.Start invariant-loop decreases-loop) (i : ℕ) → i ≤ 64 → length (take i s.args.of.at) ≡ i
+looked : (s : tie.Start invariant-loop-i decreases-loop-i) (i : ℕ) → i ≤ 64 → length (take i s.args.of.at) ≡ i
 looked s i h = length-take-le i s.args.of.at (omega (arith, whole s))
 
 -- there is room for one number more
-room : (c : tie.After-is-among invariant-loop decreases-loop) → c.before.before.loop.count ≤ 63
+room : (c : tie.After-is_among invariant-loop-i decreases-loop-i) → c.before.before.loop-i.count ≤ 63
 room c =
     let s = c.before.before.before.before.before in
-    let i = c.before.before.loop.i in
+    let i = c.before.before.loop-i.i in
     omega (arith, length-keep (test s) (take i s.args.of.at), looked s i (omega arith))
 
-mul_at : tie.Need-overflow-mul-at invariant-loop decreases-loop
-mul_at c = record { fits = omega (arith, room c.before) }
+offset_bounds-at-count : tie.Need-offset_bounds-at-count invariant-loop-i decreases-loop-i
+offset_bounds-at-count c = record { fits = omega (arith, room c.before) }
 
-array-write-at : tie.Need-array-write-at invariant-loop decreases-loop
-array-write-at c = omega (arith, room c.before)
+bounds-at-count : tie.Need-bounds-at-count invariant-loop-i decreases-loop-i
+bounds-at-count c = omega (arith, room c.before)
 
-add-count : tie.Need-overflow-add-count invariant-loop decreases-loop
-add-count c = record { fits = omega (arith, room c.before) }
+overflow_add-count : tie.Need-overflow_add-count invariant-loop-i decreases-loop-i
+overflow_add-count c = record { fits = omega (arith, room c.before) }
 
-add-i : tie.Need-overflow-add-i invariant-loop decreases-loop
-add-i c = search rules
+overflow_add-i : tie.Need-overflow_add-i invariant-loop-i decreases-loop-i
+overflow_add-i c = search rules
 
-loop-less : tie.Need-loop-smaller invariant-loop decreases-loop
-loop-less c = search rules
+loop-i-smaller : tie.Need-loop-i-smaller invariant-loop-i decreases-loop-i
+loop-i-smaller c = search rules
 
-loop-again : tie.Need-loop-preserved invariant-loop decreases-loop
-loop-again c =
+loop-i-preserved : tie.Need-loop-i-preserved invariant-loop-i decreases-loop-i
+loop-i-preserved c =
     let s = c.before.before.before.before.before.before in
-    let loop = c.before.before.before.loop in
+    let loop = c.before.before.before.loop-i in
     let from = s.args.of.at in
     let l = take loop.i from in
     let x = get_or from loop.i 0 in
@@ -95,28 +95,28 @@ loop-again c =
     ⊎_elim
     (λ w. (omega arith, rw (w.1, w.2, next) (stands_joins 64 (test s) l x (omega arith) (answered c.before ∙ w.0.taken) loop.invariant.1)))
     (λ w. (omega arith, rw (w.1, w.2, next) (stands_stays 64 (test s) l x (answered c.before ∙ w.0.left) loop.invariant.1)))
-    c.if1.branch
+    c.if-is_among-wanted.branch
 
-returns : tie.Need-returns invariant-loop decreases-loop
+returns : tie.Need-returns invariant-loop-i decreases-loop-i
 returns c =
-    let loop = c.before.loop in
+    let loop = c.before.loop-i in
     let e : loop.i ≡ c.before.before.before.before.args.of.count = omega arith in
     rw (loop.invariant.1.0, loop.invariant.1.1, e)
 
-pub keep-among-spec : {M : Type 1} → statement M
-keep-among-spec =
+pub keep_among_spec : {M : Type 1} → statement M
+keep_among_spec =
     tie.close
     (tie.spec
-    invariant-loop
-    decreases-loop
-    loop-holds
-    mul-x
-    array-read-x
-    is-among-requires
-    mul_at
-    array-write-at
-    add-count
-    add-i
-    loop-less
-    loop-again
+    invariant-loop-i
+    decreases-loop-i
+    loop-i-init
+    offset_bounds-from-i
+    bounds-from-i
+    is_among-requires
+    offset_bounds-at-count
+    bounds-at-count
+    overflow_add-count
+    overflow_add-i
+    loop-i-smaller
+    loop-i-preserved
     returns)

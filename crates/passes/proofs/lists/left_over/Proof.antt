@@ -9,20 +9,20 @@ use Rattle.passes.proofs.PassLaws.{numbers-numbers_of}
 use Rattle.passes.proofs.lists.left_over.Statement.{statement}
 use Rattle.passes.proofs.lists.left_over.Tie as tie
 
-get-unmatched-requires : tie.Need-get-unmatched-requires
-get-unmatched-requires c κs = search rules
+get_unmatched-left-requires : tie.Need-get_unmatched-left-requires
+get_unmatched-left-requires c κs = search rules
 
-slice-aggregate-keep-among : tie.Need-slice-aggregate-keep-among
-slice-aggregate-keep-among c = search rules
+slice_bounds-keep_among-end : tie.Need-slice_bounds-keep_among-end
+slice_bounds-keep_among-end c = search rules
 
-keep-among-requires : tie.Need-keep-among-requires
-keep-among-requires c κs =
+keep_among-requires : tie.Need-keep_among-requires
+keep_among-requires c κs =
     let s = c.before.before.before.before in
-    let all : length s.args.second.rows ≡ 32 = simp length-map at s.well-formed.1.1.0.1.1.0.1.0.1 in
-    (rw c.before.get-unmatched.ensures (le_trans (at_most-total _ _) (omega (arith, s.requires.0))), omega (arith, s.requires.2))
+    let all : length s.args.second.rows ≡ 32 = simp length-map at s.well_formed.1.1.0.1.1.0.1.0.1 in
+    (rw c.before.get_unmatched-left.ensures (le_trans (at_most-total _ _) (omega (arith, s.requires.0))), omega (arith, s.requires.2))
 
 returns : tie.Need-returns
-returns c = rw (c.keep-among.ensures, c.before.before.get-unmatched.ensures, numbers-numbers_of)
+returns c = rw (c.keep_among.ensures, c.before.before.get_unmatched-left.ensures, numbers-numbers_of)
 
-pub left-over-spec : {M : Type 1} → statement M
-left-over-spec = tie.close (tie.spec get-unmatched-requires slice-aggregate-keep-among keep-among-requires returns)
+pub left_over_spec : {M : Type 1} → statement M
+left_over_spec = tie.close (tie.spec get_unmatched-left-requires slice_bounds-keep_among-end keep_among-requires returns)

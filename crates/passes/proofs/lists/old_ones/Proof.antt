@@ -31,42 +31,42 @@ few s =
       old-few s.args.records (numbers s.args.alive) (numbers s.args.dead) (cols_picked s.args.first) s.requires.4,
     )
 
-abbrev given : tie.After-keep-among → tie.Start
+abbrev given : tie.After-keep_among-left → tie.Start
 given c = c.before.before.before.before.before
 
-get-unmatched-requires : tie.Need-get-unmatched-requires
-get-unmatched-requires c κs = search rules
+get_unmatched-unmatched-requires : tie.Need-get_unmatched-unmatched-requires
+get_unmatched-unmatched-requires c κs = search rules
 
-slice-aggregate-keep-among : tie.Need-slice-aggregate-keep-among
-slice-aggregate-keep-among c = search rules
+slice_bounds-keep_among-end : tie.Need-slice_bounds-keep_among-end
+slice_bounds-keep_among-end c = search rules
 
-keep-among-requires : tie.Need-keep-among-requires
-keep-among-requires c κs =
+keep_among-left-requires : tie.Need-keep_among-left-requires
+keep_among-left-requires c κs =
     let s = c.before.before.before.before in
-    let all : length s.args.alive.at ≡ 64 = simp length-map at s.well-formed.1.0.1.1.0.1.0.1 in
-    (rw c.before.get-unmatched.ensures (omega (arith, s.requires.0, at_most-total s.args.records (cols_picked s.args.first))), omega (arith, s.requires.1))
+    let all : length s.args.alive.at ≡ 64 = simp length-map at s.well_formed.1.0.1.1.0.1.0.1 in
+    (rw c.before.get_unmatched-unmatched.ensures (omega (arith, s.requires.0, at_most-total s.args.records (cols_picked s.args.first))), omega (arith, s.requires.1))
 
-is-left : (c : tie.After-keep-among) → c.keep-among.result ≡ numbers_of (alive-left (given c))
+is-left : (c : tie.After-keep_among-left) → c.keep_among-left.result ≡ numbers_of (alive-left (given c))
 is-left c =
     let s = given c in
-    c.keep-among.ensures ∙ rw (listed_is (unmatched s.args.records (cols_picked s.args.first)) c.before.before.get-unmatched.ensures)
+    c.keep_among-left.ensures ∙ rw (listed_is (unmatched s.args.records (cols_picked s.args.first)) c.before.before.get_unmatched-unmatched.ensures)
 
-slice-aggregate-keep-among-2 : tie.Need-slice-aggregate-keep-among-2
-slice-aggregate-keep-among-2 c = search rules
+slice_bounds-keep_among-end-2 : tie.Need-slice_bounds-keep_among-end-2
+slice_bounds-keep_among-end-2 c = search rules
 
-keep-among-requires-2 : tie.Need-keep-among-requires-2
-keep-among-requires-2 c κs =
+keep_among-unnamed-requires : tie.Need-keep_among-unnamed-requires
+keep_among-unnamed-requires c κs =
     let left = c.before.before in
     let s = given left in
     (s.pre.2, count_inside (alive-left s) (is-left left) (omega (arith, few s)))
 
-are-unnamed : (c : tie.After-keep-among2) → c.keep-among2.result ≡ numbers_of (unnamed (given c.before.before.before))
+are-unnamed : (c : tie.After-keep_among-unnamed) → c.keep_among-unnamed.result ≡ numbers_of (unnamed (given c.before.before.before))
 are-unnamed c =
     let left = c.before.before.before in
-    c.keep-among2.ensures ∙ rw (listed_is (alive-left (given left)) (is-left left))
+    c.keep_among-unnamed.ensures ∙ rw (listed_is (alive-left (given left)) (is-left left))
 
-slice-aggregate-append : tie.Need-slice-aggregate-append
-slice-aggregate-append c = search rules
+slice_bounds-append-end : tie.Need-slice_bounds-append-end
+slice_bounds-append-end c = search rules
 
 append-requires : tie.Need-append-requires
 append-requires c κs =
@@ -86,15 +86,15 @@ returns c =
     let s = given left in
     c.append.ensures ∙ rw (listed_is (unnamed s) (are-unnamed u), listed_is (alive-left s) (is-left left))
 
-pub old-ones-spec : {M : Type 1} → statement M
-old-ones-spec =
+pub old_ones_spec : {M : Type 1} → statement M
+old_ones_spec =
     tie.close
     (tie.spec
-    get-unmatched-requires
-    slice-aggregate-keep-among
-    keep-among-requires
-    slice-aggregate-keep-among-2
-    keep-among-requires-2
-    slice-aggregate-append
+    get_unmatched-unmatched-requires
+    slice_bounds-keep_among-end
+    keep_among-left-requires
+    slice_bounds-keep_among-end-2
+    keep_among-unnamed-requires
+    slice_bounds-append-end
     append-requires
     returns)

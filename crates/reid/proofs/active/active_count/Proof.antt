@@ -12,63 +12,63 @@ use Rattle.reid.proofs.Listing.{active-few, one_more, no_more}
 use Rattle.reid.proofs.active.active_count.Statement.{statement}
 use Rattle.reid.proofs.active.active_count.Tie as tie
 
-abbrev invariant-loop : tie.invariant-loop
-invariant-loop n records count₀ i₀ count i = (i ≤ n) × (count ≡ length (active_of i records))
+abbrev invariant-loop-i : tie.invariant-loop-i
+invariant-loop-i n records count₀ i₀ count i = (i ≤ n) × (count ≡ length (active_of i records))
 
-abbrev decreases-loop : tie.decreases-loop
-decreases-loop n records count₀ i₀ count i = n - i
+abbrev decreases-loop-i : tie.decreases-loop-i
+decreases-loop-i n records count₀ i₀ count i = n - i
 
-loop-holds : tie.Need-loop-init invariant-loop decreases-loop
+loop-i-init : tie.Need-loop-i-init invariant-loop-i decreases-loop-i
 unfolding keep
-loop-holds c = (search rules, refl)
+loop-i-init c = (search rules, refl)
 
-mul-o : tie.Need-overflow-mul-o invariant-loop decreases-loop
-mul-o c = search rules
+offset_bounds-records-i : tie.Need-offset_bounds-records-i invariant-loop-i decreases-loop-i
+offset_bounds-records-i c = search rules
 
-array-copy-out-o : tie.Need-array-copy-out-o invariant-loop decreases-loop
-array-copy-out-o c = search rules
+bounds-records-i : tie.Need-bounds-records-i invariant-loop-i decreases-loop-i
+bounds-records-i c = search rules
 
-is-active-requires : tie.Need-is-active-requires invariant-loop decreases-loop
-is-active-requires c κs = search rules
+is_active-requires : tie.Need-is_active-requires invariant-loop-i decreases-loop-i
+is_active-requires c κs = search rules
 
-add-count : tie.Need-overflow-add-count invariant-loop decreases-loop
-add-count c =
+overflow_add-count : tie.Need-overflow_add-count invariant-loop-i decreases-loop-i
+overflow_add-count c =
     let l = c.before.before.before.before in
-    record { fits = omega (arith, simp length-map at (active-few l.loop.i l.before.args.t1)) }
+    record { fits = omega (arith, simp length-map at (active-few l.loop-i.i l.before.args.records)) }
 
-add-i : tie.Need-overflow-add-i invariant-loop decreases-loop
-add-i c = search rules
+overflow_add-i : tie.Need-overflow_add-i invariant-loop-i decreases-loop-i
+overflow_add-i c = search rules
 
-loop-less : tie.Need-loop-smaller invariant-loop decreases-loop
-loop-less c = search rules
+loop-i-smaller : tie.Need-loop-i-smaller invariant-loop-i decreases-loop-i
+loop-i-smaller c = search rules
 
-loop-again : tie.Need-loop-preserved invariant-loop decreases-loop
-loop-again c =
+loop-i-preserved : tie.Need-loop-i-preserved invariant-loop-i decreases-loop-i
+loop-i-preserved c =
     let l = c.before.before.before.before in
-    let records = l.before.args.t1 in
-    let h : l.loop.i < length records = omega (arith, l.before.well-formed.0.1.0.1) in
+    let records = l.before.args.records in
+    let h : l.loop-i.i < length records = omega (arith, l.before.well_formed.0.1.0.1) in
     ⊎_elim
-    (λ w. (omega arith, rw w.1 (one_more records l.loop.i blank h (sym c.before.is-active.ensures ∙ w.0.taken) l.loop.invariant.1)))
-    (λ w. (omega arith, rw w.1 (no_more records l.loop.i blank h (sym c.before.is-active.ensures ∙ w.0.left) l.loop.invariant.1)))
-    c.if1.branch
+    (λ w. (omega arith, rw w.1 (one_more records l.loop-i.i blank h (sym c.before.is_active.ensures ∙ w.0.taken) l.loop-i.invariant.1)))
+    (λ w. (omega arith, rw w.1 (no_more records l.loop-i.i blank h (sym c.before.is_active.ensures ∙ w.0.left) l.loop-i.invariant.1)))
+    c.if-is_active.branch
 
-returns : tie.Need-returns invariant-loop decreases-loop
+returns : tie.Need-returns invariant-loop-i decreases-loop-i
 returns c =
-    let e : c.before.loop.i ≡ c.before.before.args.n = omega arith in
-    rw e at c.before.loop.invariant.1
+    let e : c.before.loop-i.i ≡ c.before.before.args.n = omega arith in
+    rw e at c.before.loop-i.invariant.1
 
-pub active-count-spec : {M : Type 1} → statement M
-active-count-spec =
+pub active_count_spec : {M : Type 1} → statement M
+active_count_spec =
     tie.close
     (tie.spec
-    invariant-loop
-    decreases-loop
-    loop-holds
-    mul-o
-    array-copy-out-o
-    is-active-requires
-    add-count
-    add-i
-    loop-less
-    loop-again
+    invariant-loop-i
+    decreases-loop-i
+    loop-i-init
+    offset_bounds-records-i
+    bounds-records-i
+    is_active-requires
+    overflow_add-count
+    overflow_add-i
+    loop-i-smaller
+    loop-i-preserved
     returns)

@@ -2,11 +2,11 @@
 use Rattle.reid.proofs.checks.candidates_met.Statement.{statement}
 use Rattle.reid.proofs.checks.candidates_met.Tie as tie
 
+returns-then-config : tie.Need-returns-then-config
+returns-then-config c = rw c.if-config.true
+
 returns : tie.Need-returns
-returns c = rw c.if1.true
+returns c = rw c.if-config.false
 
-returns-2 : tie.Need-returns-2
-returns-2 c = rw c.if1.false
-
-pub candidates-met-spec : {M : Type 1} → statement M
-candidates-met-spec = tie.close (tie.spec returns returns-2)
+pub candidates_met_spec : {M : Type 1} → statement M
+candidates_met_spec = tie.close (tie.spec returns-then-config returns)

@@ -18,83 +18,83 @@ use Rattle.reid.proofs.Places.{met_most}
 use Rattle.reid.proofs.checks.reid_refusal.Statement.{statement}
 use Rattle.reid.proofs.checks.reid_refusal.Tie as tie
 
-step-refusal-requires : tie.Need-step-refusal-requires
-step-refusal-requires c κs = search rules
+step_refusal-first-requires : tie.Need-step_refusal-first-requires
+step_refusal-first-requires c κs = search rules
 
 abbrev asked : tie.Start → List Check
 asked s = reid_checks s.args.t s.args.floats s.args.distances s.args.places
 
 -- the step's refusal, or the first of 10 and 11
-then-lent : (r : tie.After-step-refusal) →
+then-lent : (r : tie.After-step_refusal-first) →
     let checks = asked r.before.before.before.before.before in
-    let first = r.step-refusal.result in
+    let first = r.step_refusal-first.result in
     first_due checks ≡ cond (eqb first 0) (first_due (drop 3 checks)) first
 then-lent r =
     let s = r.before.before.before.before.before in
-    rw r.step-refusal.ensures (after-step Reid s.args.t s.args.floats (drop 3 (asked s)))
+    rw r.step_refusal-first.ensures (after-step Reid s.args.t s.args.floats (drop 3 (asked s)))
 
-returns : tie.Need-returns
-returns c = sym (rw (ne_eqb _ 0 c.if1.true) at (then-lent c.before))
+returns-then-first-ne0 : tie.Need-returns-then-first-ne0
+returns-then-first-ne0 c = sym (rw (ne_eqb _ 0 c.if-first-ne0.true) at (then-lent c.before))
 
 -- the checks that passed
-step-passed : (c : tie.Else1) → let checks = asked c.before.before.before.before.before.before in first_due checks ≡ first_due (drop 3 checks)
-step-passed c = rw c.if1.false at (then-lent c.before)
+step-passed : (c : tie.Else-first-ne0) → let checks = asked c.before.before.before.before.before.before in first_due checks ≡ first_due (drop 3 checks)
+step-passed c = rw c.if-first-ne0.false at (then-lent c.before)
 
-candidates-met-requires : tie.Need-candidates-met-requires
-candidates-met-requires c κs = search rules
+candidates_met-requires : tie.Need-candidates_met-requires
+candidates_met-requires c κs = search rules
 
 -- where the step's checks passed the table is whole
-facts : (c : tie.Else1) → WholeFacts c.before.before.before.before.before.before.args.t
+facts : (c : tie.Else-first-ne0) → WholeFacts c.before.before.before.before.before.before.args.t
 facts c =
     let a = c.before.before.before.before.before.before.args in
-    let none = none-due (step_checks Reid a.t a.floats) (omega arith, (omega arith, (omega arith, tt))) (sym c.before.step-refusal.ensures ∙ c.if1.false) in
+    let none = none-due (step_checks Reid a.t a.floats) (omega arith, (omega arith, (omega arith, tt))) (sym c.before.step_refusal-first.ensures ∙ c.if-first-ne0.false) in
     whole_facts a.t (not-false _ none.0)
 
-mul-if2 : tie.Need-overflow-mul-if2
-mul-if2 c =
+overflow_mul-candidates_met : tie.Need-overflow_mul-candidates_met
+overflow_mul-candidates_met c =
     let e = c.before.before in
     let t = e.before.before.before.before.before.before.args.t in
     let f = facts e in
-    let few = le_trans (met_most t.config.has_reid_distance t.lists.candidates.count) f.candidates.count in
-    record { fits = omega (arith, mul-le-mul (rw (← c.before.candidates-met.ensures) at few) f.old.count) }
+    let few = le_trans (met_most t.config-1.has_reid_distance t.lists-1.candidates-1.count) f.candidates-1.count in
+    record { fits = omega (arith, mul-le-mul (rw (← c.before.candidates_met.ensures) at few) f.old-1.count) }
 
 -- the entries that the code asks for
-same_asked : (c : tie.After-struct-known) → let t = c.before.before.before.before.before.before.before.before.args.t in c.before.candidates-met.result * t.lists.old.count ≡ distances_asked t
-same_asked c = let t = c.before.before.before.before.before.before.before.before.args.t in ap (λ (n : ℕ). n * t.lists.old.count) c.before.candidates-met.ensures
+same_asked : (c : tie.After-struct_known-1) → let t = c.before.before.before.before.before.before.before.before.args.t in c.before.candidates_met.result * t.lists-1.old-1.count ≡ distances_asked t
+same_asked c = let t = c.before.before.before.before.before.before.before.before.args.t in ap (λ (n : ℕ). n * t.lists-1.old-1.count) c.before.candidates_met.ensures
 
-returns-2 : tie.Need-returns-2
+returns-then-distances-candidates_met : tie.Need-returns-then-distances-candidates_met
 unfolding first_due
-returns-2 c =
+returns-then-distances-candidates_met c =
     let e = c.before.before.before in
-    sym (step-passed e ∙ rw (ne_eqb _ _ (λ q. c.if2.true (q ∙ sym (same_asked c.before)))))
+    sym (step-passed e ∙ rw (ne_eqb _ _ (λ q. c.if-distances-candidates_met.true (q ∙ sym (same_asked c.before)))))
 
-abbrev begun : tie.Else2 → tie.Start
+abbrev begun : tie.Else-distances-candidates_met → tie.Start
 begun c = c.before.before.before.before.before.before.before.before.before
 
-lengths-passed : (c : tie.Else2) → let checks = asked (begun c) in first_due checks ≡ first_due (drop 4 checks)
+lengths-passed : (c : tie.Else-distances-candidates_met) → let checks = asked (begun c) in first_due checks ≡ first_due (drop 4 checks)
 unfolding first_due
-lengths-passed c = step-passed c.before.before.before ∙ rw (eq-eqb _ _ (c.if2.false ∙ same_asked c.before))
+lengths-passed c = step-passed c.before.before.before ∙ rw (eq-eqb _ _ (c.if-distances-candidates_met.false ∙ same_asked c.before))
 
-returns-3 : tie.Need-returns-3
+returns-then-places-config : tie.Need-returns-then-places-config
 unfolding first_due
-returns-3 c =
+returns-then-places-config c =
     let a = (begun c.before.before).args in
-    sym (lengths-passed c.before.before ∙ rw (lt-ltb a.places a.t.config.capacity (omega (arith, c.if3.true))))
+    sym (lengths-passed c.before.before ∙ rw (lt-ltb a.places a.t.config-1.capacity (omega (arith, c.if-places-config.true))))
 
-returns-4 : tie.Need-returns-4
+returns : tie.Need-returns
 unfolding first_due
-returns-4 c =
+returns c =
     let a = (begun c.before.before).args in
-    sym (lengths-passed c.before.before ∙ rw (le-ltb a.places a.t.config.capacity (omega (arith, c.if3.false))))
+    sym (lengths-passed c.before.before ∙ rw (le-ltb a.places a.t.config-1.capacity (omega (arith, c.if-places-config.false))))
 
-pub reid-refusal-spec : {M : Type 1} → statement M
-reid-refusal-spec =
+pub reid_refusal_spec : {M : Type 1} → statement M
+reid_refusal_spec =
     tie.close
     (tie.spec
-    step-refusal-requires
-    returns
-    candidates-met-requires
-    mul-if2
-    returns-2
-    returns-3
-    returns-4)
+    step_refusal-first-requires
+    returns-then-first-ne0
+    candidates_met-requires
+    overflow_mul-candidates_met
+    returns-then-distances-candidates_met
+    returns-then-places-config
+    returns)

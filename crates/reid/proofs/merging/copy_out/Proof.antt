@@ -12,64 +12,64 @@ use Rattle.laws.proofs.Growing.{filled_copy}
 use Rattle.reid.proofs.merging.copy_out.Statement.{statement}
 use Rattle.reid.proofs.merging.copy_out.Tie as tie
 
-abbrev invariant-loop : tie.invariant-loop
-invariant-loop s start size block₀ i₀ block i = (i ≤ size) × (block ≡ filled 864 f0 (take i (drop start s)))
+abbrev invariant-loop-i : tie.invariant-loop-i
+invariant-loop-i s start size block₀ i₀ block i = (i ≤ size) × (block ≡ filled 864 f0 (take i (drop start s)))
 
-abbrev decreases-loop : tie.decreases-loop
-decreases-loop s start size block₀ i₀ block i = size - i
+abbrev decreases-loop-i : tie.decreases-loop-i
+decreases-loop-i s start size block₀ i₀ block i = size - i
 
-loop-holds : tie.Need-loop-init invariant-loop decreases-loop
-loop-holds c = (search rules, refl)
+loop-i-init : tie.Need-loop-i-init invariant-loop-i decreases-loop-i
+loop-i-init c = (search rules, refl)
 
-add-block : tie.Need-overflow-add-block invariant-loop decreases-loop
-add-block c = search rules
+overflow_add-block : tie.Need-overflow_add-block invariant-loop-i decreases-loop-i
+overflow_add-block c = search rules
 
-mul-block : tie.Need-overflow-mul-block invariant-loop decreases-loop
-mul-block c = search rules
+offset_bounds-s-start : tie.Need-offset_bounds-s-start invariant-loop-i decreases-loop-i
+offset_bounds-s-start c = search rules
 
-shared-slice-read-block : tie.Need-shared-slice-read-block invariant-loop decreases-loop
-shared-slice-read-block c = search rules
+bounds-s-start : tie.Need-bounds-s-start invariant-loop-i decreases-loop-i
+bounds-s-start c = search rules
 
-mul-block-2 : tie.Need-overflow-mul-block-2 invariant-loop decreases-loop
-mul-block-2 c = search rules
+offset_bounds-block-i : tie.Need-offset_bounds-block-i invariant-loop-i decreases-loop-i
+offset_bounds-block-i c = search rules
 
-array-write-block : tie.Need-array-write-block invariant-loop decreases-loop
-array-write-block c = search rules
+bounds-block-i : tie.Need-bounds-block-i invariant-loop-i decreases-loop-i
+bounds-block-i c = search rules
 
-add-i : tie.Need-overflow-add-i invariant-loop decreases-loop
-add-i c = search rules
+overflow_add-i : tie.Need-overflow_add-i invariant-loop-i decreases-loop-i
+overflow_add-i c = search rules
 
-loop-less : tie.Need-loop-smaller invariant-loop decreases-loop
-loop-less c = search rules
+loop-i-smaller : tie.Need-loop-i-smaller invariant-loop-i decreases-loop-i
+loop-i-smaller c = search rules
 
-loop-again : tie.Need-loop-preserved invariant-loop decreases-loop
-loop-again c =
+loop-i-preserved : tie.Need-loop-i-preserved invariant-loop-i decreases-loop-i
+loop-i-preserved c =
     let l = c.before.before in
     let a = l.before.args in
     let block = drop a.start a.s.now in
-    let h : l.loop.i < length block = omega (arith, length-drop a.start a.s.now) in (
+    let h : l.loop-i.i < length block = omega (arith, length-drop a.start a.s.now) in (
       search rules,
-      rw (l.loop.invariant.1, ← get_or-drop a.start a.s.now l.loop.i nan) (filled_copy 864 f0 block l.loop.i nan h (omega arith)),
+      rw (l.loop-i.invariant.1, ← get_or-drop a.start a.s.now l.loop-i.i nan) (filled_copy 864 f0 block l.loop-i.i nan h (omega arith)),
     )
 
-returns : tie.Need-returns invariant-loop decreases-loop
+returns : tie.Need-returns invariant-loop-i decreases-loop-i
 returns c =
-    let e : c.before.loop.i ≡ c.before.before.args.size = omega arith in
-    rw e at c.before.loop.invariant.1
+    let e : c.before.loop-i.i ≡ c.before.before.args.size = omega arith in
+    rw e at c.before.loop-i.invariant.1
 
-pub copy-out-spec : {M : Type 1} → statement M
-copy-out-spec =
+pub copy_out_spec : {M : Type 1} → statement M
+copy_out_spec =
     tie.close
     (tie.spec
-    invariant-loop
-    decreases-loop
-    loop-holds
-    add-block
-    mul-block
-    shared-slice-read-block
-    mul-block-2
-    array-write-block
-    add-i
-    loop-less
-    loop-again
+    invariant-loop-i
+    decreases-loop-i
+    loop-i-init
+    overflow_add-block
+    offset_bounds-s-start
+    bounds-s-start
+    offset_bounds-block-i
+    bounds-block-i
+    overflow_add-i
+    loop-i-smaller
+    loop-i-preserved
     returns)

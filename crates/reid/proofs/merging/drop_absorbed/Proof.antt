@@ -18,151 +18,151 @@ use Rattle.reid.proofs.Dropping.{stays, as_staying}
 use Rattle.reid.proofs.merging.drop_absorbed.Statement.{statement}
 use Rattle.reid.proofs.merging.drop_absorbed.Tie as tie
 
-abbrev invariant-loop : tie.invariant-loop
-invariant-loop n s₀ places records size kept₀ k₀ i₀ s kept k i =
+abbrev invariant-loop-i : tie.invariant-loop-i
+invariant-loop-i n s₀ places records size kept₀ k₀ i₀ s kept k i =
     (i ≤ n)
     × (k ≡ length (moved_down (stays (take places.count places.rows)) size records s₀ i))
     × (kept ≡ records_back (moved_down (stays (take places.count places.rows)) size records s₀ i) records)
     × (s ≡ floats_back size (moved_down (stays (take places.count places.rows)) size records s₀ i) s₀)
 
-abbrev decreases-loop : tie.decreases-loop
-decreases-loop n s₀ places records size kept₀ k₀ i₀ s kept k i = n - i
+abbrev decreases-loop-i : tie.decreases-loop-i
+decreases-loop-i n s₀ places records size kept₀ k₀ i₀ s kept k i = n - i
 
-abbrev given : tie.At-loop invariant-loop decreases-loop → tie.Start invariant-loop decreases-loop
+abbrev given : tie.At-loop-i invariant-loop-i decreases-loop-i → tie.Start invariant-loop-i decreases-loop-i
 given l = l.before.before.before
 
 -- the places that leave
-abbrev gone : tie.At-loop invariant-loop decreases-loop → List ℕ
+abbrev gone : tie.At-loop-i invariant-loop-i decreases-loop-i → List ℕ
 gone l = take (given l).args.places.count (given l).args.places.rows
 
-abbrev size_of : (l : tie.At-loop invariant-loop decreases-loop) → l.before.layout_of.result.size ≡ block_size (given l).args.config
-size_of l = ap (λ (r : Layout). r.size) l.before.layout_of.ensures
+abbrev size_of : (l : tie.At-loop-i invariant-loop-i decreases-loop-i) → l.before.layout_of-at.result.size ≡ block_size (given l).args.config
+size_of l = ap (λ (r : Layout). r.size) l.before.layout_of-at.ensures
 
-whole : (l : tie.At-loop invariant-loop decreases-loop) → (given l).args.n * l.before.layout_of.result.size ≤ length (given l).args.s.now
+whole : (l : tie.At-loop-i invariant-loop-i decreases-loop-i) → (given l).args.n * l.before.layout_of-at.result.size ≤ length (given l).args.s.now
 whole l = by_size (given l).args.n (length (given l).args.s.now) (size_of l) (given l).requires.2
 
-layout-of-requires : tie.Need-layout-of-requires invariant-loop decreases-loop
-layout-of-requires c κs = search rules
+layout_of-at-requires : tie.Need-layout_of-at-requires invariant-loop-i decreases-loop-i
+layout_of-at-requires c κs = search rules
 
-loop-holds : tie.Need-loop-init invariant-loop decreases-loop
+loop-i-init : tie.Need-loop-i-init invariant-loop-i decreases-loop-i
 unfolding below keep blocks_of
-loop-holds c = (search rules, refl, refl, rw zero-mul)
+loop-i-init c = (search rules, refl, refl, rw zero-mul)
 
-leaves-requires : tie.Need-leaves-requires invariant-loop decreases-loop
+leaves-requires : tie.Need-leaves-requires invariant-loop-i decreases-loop-i
 leaves-requires c κs =
     let s = given c.before in
     let rows : length s.args.places.rows ≡ 32 = simp length-map at s.good.1.1.1.1.0.1.1.0.1.0.1 in
     let cols : length s.args.places.cols ≡ 32 = simp length-map at s.good.1.1.1.1.0.1.1.1.0.1.0.1 in
     (omega (arith, s.pre.3), omega (arith, s.pre.3))
 
-add-i : tie.Need-overflow-add-i invariant-loop decreases-loop
-add-i c = search rules
+overflow_add-i : tie.Need-overflow_add-i invariant-loop-i decreases-loop-i
+overflow_add-i c = search rules
 
-loop-less : tie.Need-loop-smaller invariant-loop decreases-loop
-loop-less c = search rules
+loop-i-smaller-then-leaves : tie.Need-loop-i-smaller-then-leaves invariant-loop-i decreases-loop-i
+loop-i-smaller-then-leaves c = search rules
 
-loop-again : tie.Need-loop-preserved invariant-loop decreases-loop
-loop-again c =
+loop-i-preserved-then-leaves : tie.Need-loop-i-preserved-then-leaves invariant-loop-i decreases-loop-i
+loop-i-preserved-then-leaves c =
     let l = c.before.before.before in
     let a = (given l).args in
-    let size = l.before.layout_of.result.size in
-    let e = leaves (stays (gone l)) size a.t2 a.s.now l.loop.i (ap not (sym c.before.leaves.ensures ∙ c.if1.true)) in
-    (search rules, rw (add-one, e) l.loop.invariant.1, rw (add-one, e) l.loop.invariant.2, rw (add-one, e) l.loop.invariant.3)
+    let size = l.before.layout_of-at.result.size in
+    let e = leaves (stays (gone l)) size a.t2 a.s-1.now l.loop-i.i (ap not (sym c.before.leaves.ensures ∙ c.if-leaves.true)) in
+    (search rules, rw (add-one, e) l.loop-i.invariant.1, rw (add-one, e) l.loop-i.invariant.2, rw (add-one, e) l.loop-i.invariant.3)
 
-space : (c : tie.In-loop invariant-loop decreases-loop)
-    → let l = c.before in Room l.before.layout_of.result.size (given l).args.s.now l.loop.s l.loop.i l.loop.k
+space : (c : tie.In-loop-i invariant-loop-i decreases-loop-i)
+    → let l = c.before in Room l.before.layout_of-at.result.size (given l).args.s.now l.loop-i.s l.loop-i.i l.loop-i.k
 space c =
     let l = c.before in
     let a = (given l).args in
-    room (stays (gone l)) l.before.layout_of.result.size a.t2 a.s.now l.loop.i c.loop-test.true (whole l) l.loop.invariant.1 l.loop.invariant.3
+    room (stays (gone l)) l.before.layout_of-at.result.size a.t2 a.s-1.now l.loop-i.i c.loop-i-test.true (whole l) l.loop-i.invariant.1 l.loop-i.invariant.3
 
-mul-o : tie.Need-overflow-mul-o invariant-loop decreases-loop
-mul-o c = search rules
+offset_bounds-records-i : tie.Need-offset_bounds-records-i invariant-loop-i decreases-loop-i
+offset_bounds-records-i c = search rules
 
-array-copy-out-o : tie.Need-array-copy-out-o invariant-loop decreases-loop
-array-copy-out-o c = search rules
+bounds-records-i : tie.Need-bounds-records-i invariant-loop-i decreases-loop-i
+bounds-records-i c = search rules
 
-mul-kept : tie.Need-overflow-mul-kept invariant-loop decreases-loop
-mul-kept c = let h = space c.before.before.before in record { fits = omega arith }
+offset_bounds-kept-k : tie.Need-offset_bounds-kept-k invariant-loop-i decreases-loop-i
+offset_bounds-kept-k c = let h = space c.before.before.before in record { fits = omega arith }
 
-array-set-from-kept : tie.Need-array-set-from-kept invariant-loop decreases-loop
-array-set-from-kept c = let h = space c.before.before.before in omega arith
+bounds-kept-k : tie.Need-bounds-kept-k invariant-loop-i decreases-loop-i
+bounds-kept-k c = let h = space c.before.before.before in omega arith
 
-mul-move-down : tie.Need-overflow-mul-move-down invariant-loop decreases-loop
-mul-move-down c =
+overflow_mul-k : tie.Need-overflow_mul-k invariant-loop-i decreases-loop-i
+overflow_mul-k c =
     let t = c.before.before.before.before in
     record { fits = omega (arith, space t, (given t.before).good.1.1.1.0.0) }
 
-mul-move-down-2 : tie.Need-overflow-mul-move-down-2 invariant-loop decreases-loop
-mul-move-down-2 c =
+overflow_mul-i : tie.Need-overflow_mul-i invariant-loop-i decreases-loop-i
+overflow_mul-i c =
     let t = c.before.before.before.before in
     record { fits = omega (arith, space t, (given t.before).good.1.1.1.0.0) }
 
-move-down-requires : tie.Need-move-down-requires invariant-loop decreases-loop
-move-down-requires c κs = let h = space c.before.before.before.before in rw h.long (omega arith, omega arith)
+move_down-requires : tie.Need-move_down-requires invariant-loop-i decreases-loop-i
+move_down-requires c κs = let h = space c.before.before.before.before in rw h.long (omega arith, omega arith)
 
-add-k : tie.Need-overflow-add-k invariant-loop decreases-loop
-add-k c = let h = space c.before.before.before.before.before.before.before in record { fits = omega arith }
+overflow_add-k : tie.Need-overflow_add-k invariant-loop-i decreases-loop-i
+overflow_add-k c = let h = space c.before.before.before.before.before.before.before in record { fits = omega arith }
 
-add-i-2 : tie.Need-overflow-add-i-2 invariant-loop decreases-loop
-add-i-2 c = search rules
+overflow_add-i-in-loop-i : tie.Need-overflow_add-i-in-loop-i invariant-loop-i decreases-loop-i
+overflow_add-i-in-loop-i c = search rules
 
-loop-less-2 : tie.Need-loop-smaller-2 invariant-loop decreases-loop
-loop-less-2 c = search rules
+loop-i-smaller : tie.Need-loop-i-smaller invariant-loop-i decreases-loop-i
+loop-i-smaller c = search rules
 
-loop-again-2 : tie.Need-loop-preserved-2 invariant-loop decreases-loop
-loop-again-2 c =
+loop-i-preserved : tie.Need-loop-i-preserved invariant-loop-i decreases-loop-i
+loop-i-preserved c =
     let moved = c.before.before in
     let t = moved.before.before.before.before.before in
     let l = t.before in
     let a = (given l).args in
-    let size = l.before.layout_of.result.size in
+    let size = l.before.layout_of-at.result.size in
     let p = stays (gone l) in
-    let stay = ap not (sym moved.before.before.before.before.leaves.ensures ∙ moved.before.before.before.if1.false) in
-    let all : length a.t2 ≡ 64 = (given l).well-formed.1.0.1.0.1 in (
+    let stay = ap not (sym moved.before.before.before.before.leaves.ensures ∙ moved.before.before.before.if-leaves.false) in
+    let all : length a.t2 ≡ 64 = (given l).well_formed.1.0.1.0.1 in (
       search rules,
-      rw (add-one l.loop.k, add-one l.loop.i, one_more p size a.t2 a.s.now l.loop.i stay) (ap suc l.loop.invariant.1),
+      rw (add-one l.loop-i.k, add-one l.loop-i.i, one_more p size a.t2 a.s-1.now l.loop-i.i stay) (ap suc l.loop-i.invariant.1),
       rw add-one
-          (record_moved p size a.t2 a.s.now l.loop.i stay (omega arith) l.loop.invariant.1 l.loop.invariant.2 (read a.t2 l.loop.i (omega arith))),
-      rw add-one (block_moved p size a.t2 a.s.now l.loop.i stay (space t) l.loop.invariant.1 l.loop.invariant.3 moved.move_down.ensures),
+          (record_moved p size a.t2 a.s-1.now l.loop-i.i stay (omega arith) l.loop-i.invariant.1 l.loop-i.invariant.2 (read a.t2 l.loop-i.i (omega arith))),
+      rw add-one (block_moved p size a.t2 a.s-1.now l.loop-i.i stay (space t) l.loop-i.invariant.1 l.loop-i.invariant.3 moved.move_down.ensures),
     )
 
-same_length : tie.Need-same-length invariant-loop decreases-loop
-same_length c =
+shape_of-s : tie.Need-shape_of-s invariant-loop-i decreases-loop-i
+shape_of-s c =
     let l = c.before in
     let a = (given l).args in
-    let size = l.before.layout_of.result.size in
-    let front = le_trans (mul-le-mul_right size l.loop.invariant.0) (whole l) in
-    rw l.loop.invariant.3 (moved_length (stays (gone l)) size a.t2 a.s.now l.loop.i front)
+    let size = l.before.layout_of-at.result.size in
+    let front = le_trans (mul-le-mul_right size l.loop-i.invariant.0) (whole l) in
+    rw l.loop-i.invariant.3 (moved_length (stays (gone l)) size a.t2 a.s-1.now l.loop-i.i front)
 
-returns : tie.Need-returns invariant-loop decreases-loop
+returns : tie.Need-returns invariant-loop-i decreases-loop-i
 returns c =
     let l = c.before in
     let a = (given l).args in
-    as_staying (gone l) (block_size a.config) a.t2 a.s.now a.n (size_of l) (omega arith) l.loop.invariant.1 l.loop.invariant.2 l.loop.invariant.3
+    as_staying (gone l) (block_size a.config) a.t2 a.s-1.now a.n (size_of l) (omega arith) l.loop-i.invariant.1 l.loop-i.invariant.2 l.loop-i.invariant.3
 
-pub drop-absorbed-spec : {M : Type 1} → statement M
-drop-absorbed-spec =
+pub drop_absorbed_spec : {M : Type 1} → statement M
+drop_absorbed_spec =
     tie.close
     (tie.spec
-    invariant-loop
-    decreases-loop
-    layout-of-requires
-    loop-holds
+    invariant-loop-i
+    decreases-loop-i
+    layout_of-at-requires
+    loop-i-init
     leaves-requires
-    add-i
-    loop-less
-    loop-again
-    mul-o
-    array-copy-out-o
-    mul-kept
-    array-set-from-kept
-    mul-move-down
-    mul-move-down-2
-    move-down-requires
-    add-k
-    add-i-2
-    loop-less-2
-    loop-again-2
-    same_length
+    overflow_add-i
+    loop-i-smaller-then-leaves
+    loop-i-preserved-then-leaves
+    offset_bounds-records-i
+    bounds-records-i
+    offset_bounds-kept-k
+    bounds-kept-k
+    overflow_mul-k
+    overflow_mul-i
+    move_down-requires
+    overflow_add-k
+    overflow_add-i-in-loop-i
+    loop-i-smaller
+    loop-i-preserved
+    shape_of-s
     returns)

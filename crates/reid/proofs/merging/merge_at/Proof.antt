@@ -7,78 +7,78 @@ use Rattle.reid.proofs.Lending.{Lends, from_inside, on_inside, size_most, size_i
 use Rattle.reid.proofs.merging.merge_at.Statement.{statement}
 use Rattle.reid.proofs.merging.merge_at.Tie as tie
 
-lends : (l : tie.After-layout-of) → let a = l.before.before.args in Lends a.config l.layout_of.result a.s.now a.a a.b
-lends l = let p = l.before.before.requires in record { layout = l.layout_of.ensures; sizes = p.0; from = p.3; on = p.4 }
+lends : (l : tie.After-layout_of-at) → let a = l.before.before.args in Lends a.config l.layout_of-at.result a.s-1.now a.a a.b
+lends l = let p = l.before.before.requires in record { layout = l.layout_of-at.ensures; sizes = p.0; from = p.3; on = p.4 }
 
-layout-of-requires : tie.Need-layout-of-requires
-layout-of-requires c κs = search rules
+layout_of-at-requires : tie.Need-layout_of-at-requires
+layout_of-at-requires c κs = search rules
 
-mul-copy-out : tie.Need-overflow-mul-copy-out
-mul-copy-out c = record { fits = omega (arith, from_inside (lends c.before), c.before.before.before.well-formed) }
+overflow_mul-a : tie.Need-overflow_mul-a
+overflow_mul-a c = record { fits = omega (arith, from_inside (lends c.before), c.before.before.before.well_formed) }
 
-copy-out-requires : tie.Need-copy-out-requires
-copy-out-requires c κs = (size_most (lends c.before), from_inside (lends c.before))
+copy_out-from-requires : tie.Need-copy_out-from-requires
+copy_out-from-requires c κs = (size_most (lends c.before), from_inside (lends c.before))
 
-mul-start : tie.Need-overflow-mul-start
-mul-start c = record { fits = omega (arith, on_inside (lends c.before.before), c.before.before.before.before.well-formed) }
+overflow_mul-start : tie.Need-overflow_mul-start
+overflow_mul-start c = record { fits = omega (arith, on_inside (lends c.before.before), c.before.before.before.before.well_formed) }
 
-add-end : tie.Need-overflow-add-end
-add-end c = record { fits = omega (arith, on_inside (lends c.before.before), c.before.before.before.before.well-formed) }
+overflow_add-end : tie.Need-overflow_add-end
+overflow_add-end c = record { fits = omega (arith, on_inside (lends c.before.before), c.before.before.before.before.well_formed) }
 
-mul-merge : tie.Need-overflow-mul-merge
-mul-merge c = record { fits = omega (arith, on_inside (lends c.before.before), c.before.before.before.before.well-formed) }
+offset_bounds-s-start : tie.Need-offset_bounds-s-start
+offset_bounds-s-start c = record { fits = omega (arith, on_inside (lends c.before.before), c.before.before.before.before.well_formed) }
 
-sub-merge : tie.Need-overflow-sub-merge
-sub-merge c = search rules
+slice_bounds-merge-count : tie.Need-slice_bounds-merge-count
+slice_bounds-merge-count c = search rules
 
-part-merge-start : tie.Need-slice-bounds-merge-start
-part-merge-start c = search rules
+slice_bounds-merge-start : tie.Need-slice_bounds-merge-start
+slice_bounds-merge-start c = search rules
 
-part-merge-end : tie.Need-slice-bounds-merge-end
-part-merge-end c = on_inside (lends c.before.before)
+slice_bounds-merge-end : tie.Need-slice_bounds-merge-end
+slice_bounds-merge-end c = on_inside (lends c.before.before)
 
-array-share-prefix-from : tie.Need-array-share-prefix-from
-array-share-prefix-from c =
+slice_bounds-from-end : tie.Need-slice_bounds-from-end
+slice_bounds-from-end c =
     let l = lends c.before.before.before in
-    omega (arith, size_most l, copy_long l c.before.copy-out.ensures)
+    omega (arith, size_most l, copy_long l c.before.copy_out-from.ensures)
 
-slice-aggregate-merge : tie.Need-slice-aggregate-merge
-slice-aggregate-merge c = sym (copy_size (lends c.before.before.before.before) c.before.before.copy-out.ensures)
+slice_bounds-merge-end-2 : tie.Need-slice_bounds-merge-end-2
+slice_bounds-merge-end-2 c = sym (copy_size (lends c.before.before.before.before) c.before.before.copy_out-from.ensures)
 
 merge-requires : tie.Need-merge-requires
 merge-requires c κs =
     let l = lends c.before.before.before.before in
     let p = c.before.before.before.before.before.before.requires in
-    (p.0, p.2, p.1, copy_size l c.before.before.copy-out.ensures ∙ size_is l, on_long l)
+    (p.0, p.2, p.1, copy_size l c.before.before.copy_out-from.ensures ∙ size_is l, on_long l)
 
-same_length : tie.Need-same-length
-same_length c = search rules
+shape_of-s : tie.Need-shape_of-s
+shape_of-s c = search rules
 
 returns : tie.Need-returns
 returns c =
     let called = c.before.before.merge in
-    let copied = c.before.before.before.before.before.copy-out.ensures in
+    let copied = c.before.before.before.before.before.copy_out-from.ensures in
     let l = c.before.before.before.before.before.before.before in
     let a = l.before.before.args in (
       by_blocks (lends l) copied (λ from on. object_merged a.config a.candidate from a.o on) called.ensures.0,
-      block_back (lends l) copied (λ from on. block_merged a.config a.candidate from a.o on) c.before.s.given.0 called.ensures.1,
+      block_back (lends l) copied (λ from on. block_merged a.config a.candidate from a.o on) c.before.s-1.given.0 called.ensures.1,
     )
 
-pub merge-at-spec : {M : Type 1} → statement M
-merge-at-spec =
+pub merge_at_spec : {M : Type 1} → statement M
+merge_at_spec =
     tie.close
     (tie.spec
-    layout-of-requires
-    mul-copy-out
-    copy-out-requires
-    mul-start
-    add-end
-    mul-merge
-    sub-merge
-    part-merge-start
-    part-merge-end
-    array-share-prefix-from
-    slice-aggregate-merge
+    layout_of-at-requires
+    overflow_mul-a
+    copy_out-from-requires
+    overflow_mul-start
+    overflow_add-end
+    offset_bounds-s-start
+    slice_bounds-merge-count
+    slice_bounds-merge-start
+    slice_bounds-merge-end
+    slice_bounds-from-end
+    slice_bounds-merge-end-2
     merge-requires
-    same_length
+    shape_of-s
     returns)

@@ -7,20 +7,20 @@ use lib.ListN.{length, length-map}
 use Rattle.table.proofs.listed.are_candidates_whole.Statement.{statement}
 use Rattle.table.proofs.listed.are_candidates_whole.Tie as tie
 
-returns : tie.Need-returns
-returns c = rw (lt-leb _ 32 c.if1.true)
+returns-then-n-gt32 : tie.Need-returns-then-n-gt32
+returns-then-n-gt32 c = rw (lt-leb _ 32 c.if-n-gt32.true)
 
-slice-aggregate-are-names : tie.Need-slice-aggregate-are-names
-slice-aggregate-are-names c = search rules
+slice_bounds-are_names-end : tie.Need-slice_bounds-are_names-end
+slice_bounds-are_names-end c = search rules
 
-are-names-requires : tie.Need-are-names-requires
-are-names-requires c κs =
+are_names-requires : tie.Need-are_names-requires
+are_names-requires c κs =
     let s = c.before.before.before in
-    let all : length s.args.list.at ≡ 32 = simp length-map at s.well-formed.0.1.1.0.1.0.1 in
-    omega (arith, c.before.if1.false)
+    let all : length s.args.list.at-1 ≡ 32 = simp length-map at s.well_formed.0.1.1.0.1.0.1 in
+    omega (arith, c.before.if-n-gt32.false)
 
-returns-2 : tie.Need-returns-2
-returns-2 c = rw (c.are-names.ensures, le-leb _ 32 c.before.before.if1.false)
+returns : tie.Need-returns
+returns c = rw (c.are_names.ensures, le-leb _ 32 c.before.before.if-n-gt32.false)
 
-pub are-candidates-whole-spec : {M : Type 1} → statement M
-are-candidates-whole-spec = tie.close (tie.spec returns slice-aggregate-are-names are-names-requires returns-2)
+pub are_candidates_whole_spec : {M : Type 1} → statement M
+are_candidates_whole_spec = tie.close (tie.spec returns-then-n-gt32 slice_bounds-are_names-end are_names-requires returns)

@@ -9,73 +9,73 @@ use Rattle.table.proofs.Names.{too_large, twice, new_name}
 use Rattle.table.proofs.listed.are_names.Statement.{statement}
 use Rattle.table.proofs.listed.are_names.Tie as tie
 
-abbrev invariant-loop : tie.invariant-loop
-invariant-loop at n limit i₀ i = (i ≤ n) × (names_below limit i at ≡ true)
+abbrev invariant-loop-i : tie.invariant-loop-i
+invariant-loop-i at n limit i₀ i = (i ≤ n) × (names_below limit i at ≡ true)
 
-abbrev decreases-loop : tie.decreases-loop
-decreases-loop at n limit i₀ i = n - i
+abbrev decreases-loop-i : tie.decreases-loop-i
+decreases-loop-i at n limit i₀ i = n - i
 
-abbrev given : tie.At-loop invariant-loop decreases-loop → tie.Start invariant-loop decreases-loop
+abbrev given : tie.At-loop-i invariant-loop-i decreases-loop-i → tie.Start invariant-loop-i decreases-loop-i
 given l = l.before.before
 
-loop-holds : tie.Need-loop-init invariant-loop decreases-loop
+loop-i-init : tie.Need-loop-i-init invariant-loop-i decreases-loop-i
 unfolding names_below
-loop-holds c = (search rules, refl)
+loop-i-init c = (search rules, refl)
 
-mul-x : tie.Need-overflow-mul-x invariant-loop decreases-loop
-mul-x c = search rules
+offset_bounds-at-i : tie.Need-offset_bounds-at-i invariant-loop-i decreases-loop-i
+offset_bounds-at-i c = search rules
 
-shared-slice-read-x : tie.Need-shared-slice-read-x invariant-loop decreases-loop
-shared-slice-read-x c = search rules
+bounds-at-i : tie.Need-bounds-at-i invariant-loop-i decreases-loop-i
+bounds-at-i c = search rules
 
-returns : tie.Need-returns invariant-loop decreases-loop
-returns c =
+returns-then-limit-x : tie.Need-returns-then-limit-x invariant-loop-i decreases-loop-i
+returns-then-limit-x c =
     let in-loop = c.before.before in
     let s = given in-loop.before in
-    sym (too_large s.args.limit s.args.at.now in-loop.before.loop.i s.args.n in-loop.loop-test.true c.if1.true)
+    sym (too_large s.args.limit s.args.at.now in-loop.before.loop-i.i s.args.n in-loop.loop-i-test.true c.if-limit-x.true)
 
-is-among-requires : tie.Need-is-among-requires invariant-loop decreases-loop
-is-among-requires c κs = search rules
+is_among-requires : tie.Need-is_among-requires invariant-loop-i decreases-loop-i
+is_among-requires c κs = search rules
 
-returns-2 : tie.Need-returns-2 invariant-loop decreases-loop
-returns-2 c =
+returns-then-is_among : tie.Need-returns-then-is_among invariant-loop-i decreases-loop-i
+returns-then-is_among c =
     let in-loop = c.before.before.before.before in
     let s = given in-loop.before in
-    sym (twice s.args.limit s.args.at.now in-loop.before.loop.i s.args.n in-loop.loop-test.true (sym c.before.is_among.ensures ∙ c.if2.true))
+    sym (twice s.args.limit s.args.at.now in-loop.before.loop-i.i s.args.n in-loop.loop-i-test.true (sym c.before.is_among.ensures ∙ c.if-is_among.true))
 
-add-i : tie.Need-overflow-add-i invariant-loop decreases-loop
-add-i c = search rules
+overflow_add-i : tie.Need-overflow_add-i invariant-loop-i decreases-loop-i
+overflow_add-i c = search rules
 
-loop-less : tie.Need-loop-smaller invariant-loop decreases-loop
-loop-less c = search rules
+loop-i-smaller : tie.Need-loop-i-smaller invariant-loop-i decreases-loop-i
+loop-i-smaller c = search rules
 
-loop-again : tie.Need-loop-preserved invariant-loop decreases-loop
-loop-again c =
+loop-i-preserved : tie.Need-loop-i-preserved invariant-loop-i decreases-loop-i
+loop-i-preserved c =
     let l = c.before.before.before.before.before in
     let s = given l in (
       omega arith,
-      new_name s.args.limit s.args.at.now l.loop.i l.loop.invariant.1 c.before.before.if1.false
-          (sym c.before.is_among.ensures ∙ c.if2.false),
+      new_name s.args.limit s.args.at.now l.loop-i.i l.loop-i.invariant.1 c.before.before.if-limit-x.false
+          (sym c.before.is_among.ensures ∙ c.if-is_among.false),
     )
 
-returns-3 : tie.Need-returns-3 invariant-loop decreases-loop
-returns-3 c =
-    let e : c.before.loop.i ≡ (given c.before).args.n = omega arith in
-    sym (rw e at c.before.loop.invariant.1)
+returns : tie.Need-returns invariant-loop-i decreases-loop-i
+returns c =
+    let e : c.before.loop-i.i ≡ (given c.before).args.n = omega arith in
+    sym (rw e at c.before.loop-i.invariant.1)
 
-pub are-names-spec : {M : Type 1} → statement M
-are-names-spec =
+pub are_names_spec : {M : Type 1} → statement M
+are_names_spec =
     tie.close
     (tie.spec
-    invariant-loop
-    decreases-loop
-    loop-holds
-    mul-x
-    shared-slice-read-x
-    returns
-    is-among-requires
-    returns-2
-    add-i
-    loop-less
-    loop-again
-    returns-3)
+    invariant-loop-i
+    decreases-loop-i
+    loop-i-init
+    offset_bounds-at-i
+    bounds-at-i
+    returns-then-limit-x
+    is_among-requires
+    returns-then-is_among
+    overflow_add-i
+    loop-i-smaller
+    loop-i-preserved
+    returns)

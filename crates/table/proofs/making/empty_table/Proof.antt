@@ -3,14 +3,14 @@ use borrow.Author.Rules.{rules}
 use Rattle.table.proofs.making.empty_table.Statement.{statement}
 use Rattle.table.proofs.making.empty_table.Tie as tie
 
-zero-object-requires : tie.Need-zero-object-requires
-zero-object-requires c κs = search rules
+zero_object-zero-requires : tie.Need-zero_object-zero-requires
+zero_object-zero-requires c κs = search rules
 
-no-lists-requires : tie.Need-no-lists-requires
-no-lists-requires c κs = search rules
+no_lists-lists-requires : tie.Need-no_lists-lists-requires
+no_lists-lists-requires c κs = search rules
 
 returns : tie.Need-returns
-returns c = rw (c.no-lists.ensures, c.before.zero-object.ensures)
+returns c = rw (c.no_lists-lists.ensures, c.before.zero_object-zero.ensures)
 
-pub empty-table-spec : {M : Type 1} → statement M
-empty-table-spec = tie.close (tie.spec zero-object-requires no-lists-requires returns)
+pub empty_table_spec : {M : Type 1} → statement M
+empty_table_spec = tie.close (tie.spec zero_object-zero-requires no_lists-lists-requires returns)

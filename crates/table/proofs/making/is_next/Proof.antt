@@ -3,14 +3,14 @@ use borrow.Author.Rules.{rules}
 use Rattle.table.proofs.making.is_next.Statement.{statement}
 use Rattle.table.proofs.making.is_next.Tie as tie
 
-number-of-requires : tie.Need-number-of-requires
-number-of-requires c κs = search rules
+number_of-requires : tie.Need-number_of-requires
+number_of-requires c κs = search rules
 
-number-of-requires-2 : tie.Need-number-of-requires-2
-number-of-requires-2 c κs = search rules
+number_of-requires-2 : tie.Need-number_of-requires-2
+number_of-requires-2 c κs = search rules
 
 returns : tie.Need-returns
-returns c = rw (c.before.number_of_lem.ensures, c.number-of2.ensures)
+returns c = rw (c.before.number_of_lem.ensures, c.number_of-2.ensures)
 
-pub is-next-spec : {M : Type 1} → statement M
-is-next-spec = tie.close (tie.spec number-of-requires number-of-requires-2 returns)
+pub is_next_spec : {M : Type 1} → statement M
+is_next_spec = tie.close (tie.spec number_of-requires number_of-requires-2 returns)

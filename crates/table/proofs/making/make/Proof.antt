@@ -7,40 +7,40 @@ use Rattle.table.specs.Making.{settled, made}
 use Rattle.table.proofs.making.make.Statement.{statement}
 use Rattle.table.proofs.making.make.Tie as tie
 
-refusal-of : (c : tie.After-making-refusal) →
+refusal-of : (c : tie.After-making_refusal-refusal) →
     let a = c.before.before.args in
-    first_due (making_checks (settled a.config) a.floats) ≡ c.making-refusal.result
-refusal-of c = sym (rw c.before.settle.ensures at c.making-refusal.ensures)
+    first_due (making_checks (settled a.config) a.floats) ≡ c.making_refusal-refusal.result
+refusal-of c = sym (rw c.before.settle-settings.ensures at c.making_refusal-refusal.ensures)
 
-settle-requires : tie.Need-settle-requires
-settle-requires c κs = search rules
+settle-settings-requires : tie.Need-settle-settings-requires
+settle-settings-requires c κs = search rules
 
-making-refusal-requires : tie.Need-making-refusal-requires
-making-refusal-requires c κs = search rules
+making_refusal-refusal-requires : tie.Need-making_refusal-refusal-requires
+making_refusal-refusal-requires c κs = search rules
 
-fresh-table-requires : tie.Need-fresh-table-requires
-fresh-table-requires c κs = search rules
+fresh_table-fresh-requires : tie.Need-fresh_table-fresh-requires
+fresh_table-fresh-requires c κs = search rules
 
-zero-table-requires : tie.Need-zero-table-requires
-zero-table-requires c κs = search rules
+zero_table-zero-requires : tie.Need-zero_table-zero-requires
+zero_table-zero-requires c κs = search rules
+
+returns-then-refusal-eq0 : tie.Need-returns-then-refusal-eq0
+unfolding made
+returns-then-refusal-eq0 c =
+    let fresh = c.before.before in
+    rw (refusal-of fresh.before, eq-eqb _ 0 c.if-refusal-eq0.true, ← fresh.before.before.settle-settings.ensures, ← fresh.fresh_table-fresh.ensures)
 
 returns : tie.Need-returns
 unfolding made
-returns c =
-    let fresh = c.before.before in
-    rw (refusal-of fresh.before, eq-eqb _ 0 c.if1.true, ← fresh.before.before.settle.ensures, ← fresh.fresh-table.ensures)
-
-returns-2 : tie.Need-returns-2
-unfolding made
-returns-2 c = rw (refusal-of c.before.before.before, ne_eqb _ 0 c.if1.false, ← c.before.zero-table.ensures)
+returns c = rw (refusal-of c.before.before.before, ne_eqb _ 0 c.if-refusal-eq0.false, ← c.before.zero_table-zero.ensures)
 
 pub make_spec : {M : Type 1} → statement M
 make_spec =
     tie.close
     (tie.spec
-    settle-requires
-    making-refusal-requires
-    fresh-table-requires
-    zero-table-requires
-    returns
-    returns-2)
+    settle-settings-requires
+    making_refusal-refusal-requires
+    fresh_table-fresh-requires
+    zero_table-zero-requires
+    returns-then-refusal-eq0
+    returns)

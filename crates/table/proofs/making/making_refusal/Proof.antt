@@ -9,57 +9,57 @@ use Rattle.table.proofs.making.making_refusal.Statement.{statement}
 use Rattle.table.proofs.making.making_refusal.Tie as tie
 
 -- the checks that passed
-not_negative : (c : tie.Else1) → delay_negative c.before.before.args.config ≡ false
-not_negative c = sym c.before.is-delay-negative.ensures ∙ c.if1.false
+not_negative : (c : tie.Else-is_delay_negative) → delay_negative c.before.before.args.config ≡ false
+not_negative c = sym c.before.is_delay_negative.ensures ∙ c.if-is_delay_negative.false
 
-not-long : (c : tie.Else2) → delay_too_long c.before.before.before.before.args.config ≡ false
-not-long c = sym c.before.is-delay-too-long.ensures ∙ c.if2.false
+not-long : (c : tie.Else-is_delay_too_long) → delay_too_long c.before.before.before.before.args.config ≡ false
+not-long c = sym c.before.is_delay_too_long.ensures ∙ c.if-is_delay_too_long.false
 
-in-range : (c : tie.Else3) → settings_in_range c.before.before.before.before.before.before.args.config ≡ true
-in-range c = sym c.before.are-settings-in-range.ensures ∙ not-false _ c.if3.false
+in-range : (c : tie.Else-not-are_settings_in_range) → settings_in_range c.before.before.before.before.before.before.args.config ≡ true
+in-range c = sym c.before.are_settings_in_range.ensures ∙ not-false _ c.if-not-are_settings_in_range.false-raw
 
-is-delay-negative-requires : tie.Need-is-delay-negative-requires
-is-delay-negative-requires c κs = search rules
+is_delay_negative-requires : tie.Need-is_delay_negative-requires
+is_delay_negative-requires c κs = search rules
+
+returns-then-is_delay_negative : tie.Need-returns-then-is_delay_negative
+unfolding first_due
+returns-then-is_delay_negative c = rw (sym c.before.is_delay_negative.ensures ∙ c.if-is_delay_negative.true)
+
+is_delay_too_long-requires : tie.Need-is_delay_too_long-requires
+is_delay_too_long-requires c κs = search rules
+
+returns-then-is_delay_too_long : tie.Need-returns-then-is_delay_too_long
+unfolding first_due
+returns-then-is_delay_too_long c = rw (not_negative c.before.before, sym c.before.is_delay_too_long.ensures ∙ c.if-is_delay_too_long.true)
+
+are_settings_in_range-requires : tie.Need-are_settings_in_range-requires
+are_settings_in_range-requires c κs = search rules
+
+returns-then-not-are_settings_in_range : tie.Need-returns-then-not-are_settings_in_range
+unfolding first_due
+returns-then-not-are_settings_in_range c = rw (not_negative c.before.before.before.before, not-long c.before.before, sym c.before.are_settings_in_range.ensures ∙ not-true _ c.if-not-are_settings_in_range.true-raw)
+
+storage_need-requires : tie.Need-storage_need-requires
+storage_need-requires c κs = in-range c
+
+returns-then-floats-storage_need : tie.Need-returns-then-floats-storage_need
+unfolding first_due
+returns-then-floats-storage_need c = rw (not_negative c.before.before.before.before.before.before, not-long c.before.before.before.before, in-range c.before.before, lt-ltb _ _ (rw c.before.storage_need.ensures at c.if-floats-storage_need.true))
 
 returns : tie.Need-returns
 unfolding first_due
-returns c = rw (sym c.before.is-delay-negative.ensures ∙ c.if1.true)
+returns c = rw (not_negative c.before.before.before.before.before.before, not-long c.before.before.before.before, in-range c.before.before, le-ltb _ _ (rw c.before.storage_need.ensures at c.if-floats-storage_need.false))
 
-is-delay-too-long-requires : tie.Need-is-delay-too-long-requires
-is-delay-too-long-requires c κs = search rules
-
-returns-2 : tie.Need-returns-2
-unfolding first_due
-returns-2 c = rw (not_negative c.before.before, sym c.before.is-delay-too-long.ensures ∙ c.if2.true)
-
-are-settings-in-range-requires : tie.Need-are-settings-in-range-requires
-are-settings-in-range-requires c κs = search rules
-
-returns-3 : tie.Need-returns-3
-unfolding first_due
-returns-3 c = rw (not_negative c.before.before.before.before, not-long c.before.before, sym c.before.are-settings-in-range.ensures ∙ not-true _ c.if3.true)
-
-storage-need-requires : tie.Need-storage-need-requires
-storage-need-requires c κs = in-range c
-
-returns-4 : tie.Need-returns-4
-unfolding first_due
-returns-4 c = rw (not_negative c.before.before.before.before.before.before, not-long c.before.before.before.before, in-range c.before.before, lt-ltb _ _ (rw c.before.storage-need.ensures at c.if4.true))
-
-returns-5 : tie.Need-returns-5
-unfolding first_due
-returns-5 c = rw (not_negative c.before.before.before.before.before.before, not-long c.before.before.before.before, in-range c.before.before, le-ltb _ _ (rw c.before.storage-need.ensures at c.if4.false))
-
-pub making-refusal-spec : {M : Type 1} → statement M
-making-refusal-spec =
+pub making_refusal_spec : {M : Type 1} → statement M
+making_refusal_spec =
     tie.close
     (tie.spec
-    is-delay-negative-requires
-    returns
-    is-delay-too-long-requires
-    returns-2
-    are-settings-in-range-requires
-    returns-3
-    storage-need-requires
-    returns-4
-    returns-5)
+    is_delay_negative-requires
+    returns-then-is_delay_negative
+    is_delay_too_long-requires
+    returns-then-is_delay_too_long
+    are_settings_in_range-requires
+    returns-then-not-are_settings_in_range
+    storage_need-requires
+    returns-then-floats-storage_need
+    returns)

@@ -3,14 +3,14 @@ use borrow.Author.Rules.{rules}
 use Rattle.table.proofs.making.no_lists.Statement.{statement}
 use Rattle.table.proofs.making.no_lists.Tie as tie
 
-no-numbers-requires : tie.Need-no-numbers-requires
-no-numbers-requires c κs = search rules
+no_numbers-none-requires : tie.Need-no_numbers-none-requires
+no_numbers-none-requires c κs = search rules
 
-no-candidates-requires : tie.Need-no-candidates-requires
-no-candidates-requires c κs = search rules
+no_candidates-candidates-requires : tie.Need-no_candidates-candidates-requires
+no_candidates-candidates-requires c κs = search rules
 
 returns : tie.Need-returns
-returns c = rw (c.before.no-numbers.ensures, c.no-candidates.ensures)
+returns c = rw (c.before.no_numbers-none.ensures, c.no_candidates-candidates.ensures)
 
-pub no-lists-spec : {M : Type 1} → statement M
-no-lists-spec = tie.close (tie.spec no-numbers-requires no-candidates-requires returns)
+pub no_lists_spec : {M : Type 1} → statement M
+no_lists_spec = tie.close (tie.spec no_numbers-none-requires no_candidates-candidates-requires returns)

@@ -11,28 +11,28 @@ use Rattle.table.proofs.Due.{after-step}
 use Rattle.table.proofs.making.predict_refusal.Statement.{statement}
 use Rattle.table.proofs.making.predict_refusal.Tie as tie
 
-step-refusal-requires : tie.Need-step-refusal-requires
-step-refusal-requires c κs = search rules
+step_refusal-first-requires : tie.Need-step_refusal-first-requires
+step_refusal-first-requires c κs = search rules
 
 -- the step's refusal, or 7 if it is due
-then-frames : (c : tie.After-step-refusal) →
+then-frames : (c : tie.After-step_refusal-first) →
     let a = c.before.before.args in
-    let first = c.step-refusal.result in
-    first_due (predict_checks a.t a.floats) ≡ cond (eqb first 0) (first_due (check 7 (leb 200000000 a.t.counts.frames) ∷ [])) first
+    let first = c.step_refusal-first.result in
+    first_due (predict_checks a.t a.floats) ≡ cond (eqb first 0) (first_due (check 7 (leb 200000000 a.t.counts-1.frames) ∷ [])) first
 then-frames c =
     let a = c.before.before.args in
-    rw c.step-refusal.ensures (after-step Predict a.t a.floats (check 7 (leb 200000000 a.t.counts.frames) ∷ []))
+    rw c.step_refusal-first.ensures (after-step Predict a.t a.floats (check 7 (leb 200000000 a.t.counts-1.frames) ∷ []))
+
+returns-then-first-ne0 : tie.Need-returns-then-first-ne0
+returns-then-first-ne0 c = sym (rw (ne_eqb _ 0 c.if-first-ne0.true) at (then-frames c.before))
+
+returns-then-counts-ge200000000 : tie.Need-returns-then-counts-ge200000000
+unfolding first_due
+returns-then-counts-ge200000000 c = rw (then-frames c.before.before.before, c.before.before.if-first-ne0.false, le-leb 200000000 _ c.if-counts-ge200000000.true)
 
 returns : tie.Need-returns
-returns c = sym (rw (ne_eqb _ 0 c.if1.true) at (then-frames c.before))
-
-returns-2 : tie.Need-returns-2
 unfolding first_due
-returns-2 c = rw (then-frames c.before.before.before, c.before.before.if1.false, le-leb 200000000 _ c.if2.true)
+returns c = rw (then-frames c.before.before.before, c.before.before.if-first-ne0.false, lt-leb 200000000 _ c.if-counts-ge200000000.false)
 
-returns-3 : tie.Need-returns-3
-unfolding first_due
-returns-3 c = rw (then-frames c.before.before.before, c.before.before.if1.false, lt-leb 200000000 _ c.if2.false)
-
-pub predict-refusal-spec : {M : Type 1} → statement M
-predict-refusal-spec = tie.close (tie.spec step-refusal-requires returns returns-2 returns-3)
+pub predict_refusal_spec : {M : Type 1} → statement M
+predict_refusal_spec = tie.close (tie.spec step_refusal-first-requires returns-then-first-ne0 returns-then-counts-ge200000000 returns)

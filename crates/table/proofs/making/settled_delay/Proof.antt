@@ -26,17 +26,17 @@ stays maximum (pos d) h = refl
 stays maximum (negsuc zero) h = absurd (h refl)
 stays maximum (negsuc (suc d)) h = refl
 
-div-result : tie.Need-nonzero-div-result
-div-result c = (omega arith, rw (to_z-of_z c.before.ranges.maximum) (half-fits c.before.args.maximum c.before.ranges.maximum))
+nonzero_div-result : tie.Need-nonzero_div-result
+nonzero_div-result c = (omega arith, rw (to_z-of_z c.before.ranges.maximum) (half-fits c.before.args.maximum c.before.ranges.maximum))
 
-returns : tie.Need-returns
-returns c =
+returns-then-delay-eqminus1 : tie.Need-returns-then-delay-eqminus1
+returns-then-delay-eqminus1 c =
     let s = c.before in
-    let e : s.args.delay ≡ negsuc 0 = sym (to_z-of_z s.ranges.delay) ∙ ap (to_z w32) c.if1.true in
+    let e : s.args.delay ≡ negsuc 0 = sym (to_z-of_z s.ranges.delay) ∙ ap (to_z w32) c.if-delay-eqminus1.true in
     rw (to_z-of_z s.ranges.maximum, to_z-of_z (half-fits s.args.maximum s.ranges.maximum), e)
 
-returns-2 : tie.Need-returns-2
-returns-2 c = rw (to_z-of_z c.before.ranges.delay) (stays c.before.args.maximum c.before.args.delay c.if1.false)
+returns : tie.Need-returns
+returns c = rw (to_z-of_z c.before.ranges.delay) (stays c.before.args.maximum c.before.args.delay c.if-delay-eqminus1.false)
 
-pub settled-delay-spec : {M : Type 1} → statement M
-settled-delay-spec = tie.close (tie.spec div-result returns returns-2)
+pub settled_delay_spec : {M : Type 1} → statement M
+settled_delay_spec = tie.close (tie.spec nonzero_div-result returns-then-delay-eqminus1 returns)

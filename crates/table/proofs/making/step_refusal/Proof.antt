@@ -10,47 +10,47 @@ use Rattle.table.proofs.making.step_refusal.Statement.{statement}
 use Rattle.table.proofs.making.step_refusal.Tie as tie
 
 -- the checks that passed
-whole : (c : tie.Else1) → whole_table c.before.before.before.args.t ≡ true
-whole c = sym c.before.is_whole.ensures ∙ not-false _ c.if1.false
+whole : (c : tie.Else-not-is_whole) → whole_table c.before.before.before.args.t ≡ true
+whole c = sym c.before.is_whole.ensures ∙ not-false _ c.if-not-is_whole.false-raw
 
-enough : (c : tie.Else2) →
+enough : (c : tie.Else-floats-storage_need) →
     let a = c.before.before.before.before.before.args in
-    storage_short a.t.config a.floats ≡ false
-enough c = le-ltb _ _ (rw c.before.storage-need.ensures at c.if2.false)
+    storage_short a.t.config-1 a.floats ≡ false
+enough c = le-ltb _ _ (rw c.before.storage_need.ensures at c.if-floats-storage_need.false)
 
-is-whole-requires : tie.Need-is-whole-requires
-is-whole-requires c κs = search rules
+is_whole-requires : tie.Need-is_whole-requires
+is_whole-requires c κs = search rules
+
+returns-then-not-is_whole : tie.Need-returns-then-not-is_whole
+unfolding first_due
+returns-then-not-is_whole c = rw (sym c.before.is_whole.ensures ∙ not-true _ c.if-not-is_whole.true-raw)
+
+storage_need-requires : tie.Need-storage_need-requires
+storage_need-requires c κs = (whole_facts c.before.before.before.args.t (whole c)).in-range
+
+returns-then-floats-storage_need : tie.Need-returns-then-floats-storage_need
+unfolding first_due
+returns-then-floats-storage_need c = rw (whole c.before.before, lt-ltb _ _ (rw c.before.storage_need.ensures at c.if-floats-storage_need.true))
+
+is_next-requires : tie.Need-is_next-requires
+is_next-requires c κs = search rules
+
+returns-then-not-is_next : tie.Need-returns-then-not-is_next
+unfolding first_due
+returns-then-not-is_next c = rw (whole c.before.before.before.before, enough c.before.before, sym c.before.is_next.ensures ∙ not-true _ c.if-not-is_next.true-raw)
 
 returns : tie.Need-returns
 unfolding first_due
-returns c = rw (sym c.before.is_whole.ensures ∙ not-true _ c.if1.true)
+returns c = rw (whole c.before.before.before.before, enough c.before.before, sym c.before.is_next.ensures ∙ not-false _ c.if-not-is_next.false-raw)
 
-storage-need-requires : tie.Need-storage-need-requires
-storage-need-requires c κs = (whole_facts c.before.before.before.args.t (whole c)).in-range
-
-returns-2 : tie.Need-returns-2
-unfolding first_due
-returns-2 c = rw (whole c.before.before, lt-ltb _ _ (rw c.before.storage-need.ensures at c.if2.true))
-
-is-next-requires : tie.Need-is-next-requires
-is-next-requires c κs = search rules
-
-returns-3 : tie.Need-returns-3
-unfolding first_due
-returns-3 c = rw (whole c.before.before.before.before, enough c.before.before, sym c.before.is-next.ensures ∙ not-true _ c.if3.true)
-
-returns-4 : tie.Need-returns-4
-unfolding first_due
-returns-4 c = rw (whole c.before.before.before.before, enough c.before.before, sym c.before.is-next.ensures ∙ not-false _ c.if3.false)
-
-pub step-refusal-spec : {M : Type 1} → statement M
-step-refusal-spec =
+pub step_refusal_spec : {M : Type 1} → statement M
+step_refusal_spec =
     tie.close
     (tie.spec
-    is-whole-requires
-    returns
-    storage-need-requires
-    returns-2
-    is-next-requires
-    returns-3
-    returns-4)
+    is_whole-requires
+    returns-then-not-is_whole
+    storage_need-requires
+    returns-then-floats-storage_need
+    is_next-requires
+    returns-then-not-is_next
+    returns)

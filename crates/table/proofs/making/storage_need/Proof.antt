@@ -7,18 +7,18 @@ use Rattle.table.proofs.Facts.{settings_facts, sizes_of, block-most}
 use Rattle.table.proofs.making.storage_need.Statement.{statement}
 use Rattle.table.proofs.making.storage_need.Tie as tie
 
-layout-of-requires : tie.Need-layout-of-requires
-layout-of-requires c κs = sizes_of c.args.config c.requires
+layout_of-at-requires : tie.Need-layout_of-at-requires
+layout_of-at-requires c κs = sizes_of c.args.config c.requires
 
-mul-result : tie.Need-overflow-mul-result
-mul-result c =
+overflow_mul-result : tie.Need-overflow_mul-result
+overflow_mul-result c =
     let s = c.before.before.before in
-    let size : c.before.before.layout_of.result.size ≤ 864 = rw c.before.before.layout_of.ensures (block-most s.args.config (sizes_of s.args.config s.requires)) in
+    let size : c.before.before.layout_of-at.result.size ≤ 864 = rw c.before.before.layout_of-at.ensures (block-most s.args.config (sizes_of s.args.config s.requires)) in
     record { fits = omega (arith, mul-le-mul (settings_facts s.args.config s.requires).capacity.1 size) }
 
 returns : tie.Need-returns
 unfolding storage_need
-returns c = rw c.before.before.layout_of.ensures
+returns c = rw c.before.before.layout_of-at.ensures
 
-pub storage-need-spec : {M : Type 1} → statement M
-storage-need-spec = tie.close (tie.spec layout-of-requires mul-result returns)
+pub storage_need_spec : {M : Type 1} → statement M
+storage_need_spec = tie.close (tie.spec layout_of-at-requires overflow_mul-result returns)

@@ -7,17 +7,17 @@ use Rattle.table.specs.Ranges.{settings_in_range}
 use Rattle.table.proofs.ranges.are_settings_in_range.Statement.{statement}
 use Rattle.table.proofs.ranges.are_settings_in_range.Tie as tie
 
-is-between-requires : tie.Need-is-between-requires
-is-between-requires c κs = search rules
+is_between-points-requires : tie.Need-is_between-points-requires
+is_between-points-requires c κs = search rules
 
-is-between-requires-2 : tie.Need-is-between-requires-2
-is-between-requires-2 c κs = search rules
+is_between-dims-requires : tie.Need-is_between-dims-requires
+is_between-dims-requires c κs = search rules
 
-is-between-requires-3 : tie.Need-is-between-requires-3
-is-between-requires-3 c κs = search rules
+is_between-capacity-requires : tie.Need-is_between-capacity-requires
+is_between-capacity-requires c κs = search rules
 
-is-counter-between-requires : tie.Need-is-counter-between-requires
-is-counter-between-requires c κs = search rules
+is_counter_between-reid-requires : tie.Need-is_counter_between-reid-requires
+is_counter_between-reid-requires c κs = search rules
 
 both-requires : tie.Need-both-requires
 both-requires c κs = search rules
@@ -46,27 +46,27 @@ returns c =
     let tests = c.before.before.before.before.before.before in
     let between = tests.before.before.before.before.before in
     rw (
-      c.both6.ensures,
-      c.before.both5.ensures,
-      c.before.before.both4.ensures,
-      c.before.before.before.both3.ensures,
-      c.before.before.before.before.both2.ensures,
+      c.both-6.ensures,
+      c.before.both-5.ensures,
+      c.before.before.both-4.ensures,
+      c.before.before.before.both-3.ensures,
+      c.before.before.before.before.both-2.ensures,
       c.before.before.before.before.before.both.ensures,
-      tests.is-counter-between.ensures,
-      between.is-between3.ensures,
-      between.before.is-between2.ensures,
-      between.before.before.is-between.ensures,
+      tests.is_counter_between-reid.ensures,
+      between.is_between-capacity.ensures,
+      between.before.is_between-dims.ensures,
+      between.before.before.is_between-points.ensures,
       to_z-of_z (maximum-fits between.before.before.before),
     )
 
-pub are-settings-in-range-spec : {M : Type 1} → statement M
-are-settings-in-range-spec =
+pub are_settings_in_range_spec : {M : Type 1} → statement M
+are_settings_in_range_spec =
     tie.close
     (tie.spec
-    is-between-requires
-    is-between-requires-2
-    is-between-requires-3
-    is-counter-between-requires
+    is_between-points-requires
+    is_between-dims-requires
+    is_between-capacity-requires
+    is_counter_between-reid-requires
     both-requires
     both-requires-2
     both-requires-3

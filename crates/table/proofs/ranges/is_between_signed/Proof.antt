@@ -12,5 +12,5 @@ returns c =
     let s = c.before in
     rw (c.both.ensures, to_z-of_z s.fits.low, to_z-of_z s.fits.z, to_z-of_z s.fits.high)
 
-pub is-between-signed-spec : {M : Type 1} → statement M
-is-between-signed-spec = tie.close (tie.spec both-requires returns)
+pub is_between_signed_spec : {M : Type 1} → statement M
+is_between_signed_spec = tie.close (tie.spec both-requires returns)

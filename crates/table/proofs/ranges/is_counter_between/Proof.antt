@@ -5,32 +5,32 @@ use Rattle.table.specs.Ranges.{reid_between}
 use Rattle.table.proofs.ranges.is_counter_between.Statement.{statement}
 use Rattle.table.proofs.ranges.is_counter_between.Tie as tie
 
-enum_told : tie.Need-enum-told
-enum_told c = search rules
+enum_told-1 : tie.Need-enum_told-1
+enum_told-1 c = search rules
 
-enum-known-counter : tie.Need-enum-known-counter
-enum-known-counter c = search rules
+enum_known-counter : tie.Need-enum_known-counter
+enum_known-counter c = search rules
 
-is-between-signed-requires : tie.Need-is-between-signed-requires
-is-between-signed-requires c κs = search rules
+is_between_signed-requires : tie.Need-is_between_signed-requires
+is_between_signed-requires c κs = search rules
 
-returns : tie.Need-returns
+returns-in-Absent : tie.Need-returns-in-Absent
 unfolding reid_between
-returns c = rw c.enum_told.given.1
+returns-in-Absent c = rw c.enum_told-1.given.1
 
-returns-2 : tie.Need-returns-2
+returns-in-Present : tie.Need-returns-in-Present
 unfolding reid_between
-returns-2 c =
+returns-in-Present c =
     let told = c.before in
     let s = told.before.before.before in
     rw (
-      c.is-between-signed.ensures,
+      c.is_between_signed.ensures,
       to_z-of_z s.fits.low,
       to_z-of_z s.fits.high,
-      to_z-of_z (record { sfits = told.known-told.given.0.1 }),
-      told.before.counter.given.1,
+      to_z-of_z (record { sfits = told.known_told-1.given.0.1 }),
+      told.before.counter-1.given.1,
     )
 
-pub is-counter-between-spec : {M : Type 1} → statement M
-is-counter-between-spec =
-    tie.close (tie.spec enum_told enum-known-counter is-between-signed-requires returns returns-2)
+pub is_counter_between_spec : {M : Type 1} → statement M
+is_counter_between_spec =
+    tie.close (tie.spec enum_told-1 enum_known-counter is_between_signed-requires returns-in-Absent returns-in-Present)

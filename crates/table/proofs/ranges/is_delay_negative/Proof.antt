@@ -12,5 +12,5 @@ delay-fits c = search rules
 returns : tie.Need-returns
 returns c = rw (to_z-of_z (delay-fits c.before.before))
 
-pub is-delay-negative-spec : {M : Type 1} → statement M
-is-delay-negative-spec = tie.close (tie.spec returns)
+pub is_delay_negative_spec : {M : Type 1} → statement M
+is_delay_negative_spec = tie.close (tie.spec returns)

@@ -15,5 +15,5 @@ delay-fits c = search rules
 returns : tie.Need-returns
 returns c = rw (to_z-of_z (maximum-fits c.before.before), to_z-of_z (delay-fits c.before.before))
 
-pub is-delay-too-long-spec : {M : Type 1} → statement M
-is-delay-too-long-spec = tie.close (tie.spec returns)
+pub is_delay_too_long_spec : {M : Type 1} → statement M
+is_delay_too_long_spec = tie.close (tie.spec returns)

@@ -23,77 +23,77 @@ outside frames e = not (signed_between (negsuc 0) e.age frames)
 abbrev none : PastDetection
 none = record { age = pos 0; has_scores = false }
 
-abbrev invariant-loop : tie.invariant-loop
-invariant-loop n frames past i₀ i = (i ≤ n) × Passed (outside (to_z w32 frames)) n past i
+abbrev invariant-loop-i : tie.invariant-loop-i
+invariant-loop-i n frames past i₀ i = (i ≤ n) × Passed (outside (to_z w32 frames)) n past i
 
-abbrev decreases-loop : tie.decreases-loop
-decreases-loop n frames past i₀ i = n - i
+abbrev decreases-loop-i : tie.decreases-loop-i
+decreases-loop-i n frames past i₀ i = n - i
 
-loop-holds : tie.Need-loop-init invariant-loop decreases-loop
-loop-holds c = (search rules, refl)
+loop-i-init : tie.Need-loop-i-init invariant-loop-i decreases-loop-i
+loop-i-init c = (search rules, refl)
 
-room : (c : tie.Start invariant-loop decreases-loop) → c.args.n ≤ length c.args.t1
+room : (c : tie.Start invariant-loop-i decreases-loop-i) → c.args.n ≤ length c.args.past
 room c = omega arith
 
-mul-entry : tie.Need-overflow-mul-entry invariant-loop decreases-loop
-mul-entry c = search rules
+offset_bounds-past-i : tie.Need-offset_bounds-past-i invariant-loop-i decreases-loop-i
+offset_bounds-past-i c = search rules
 
-array-copy-out-entry : tie.Need-array-copy-out-entry invariant-loop decreases-loop
-array-copy-out-entry c = search rules
+bounds-past-i : tie.Need-bounds-past-i invariant-loop-i decreases-loop-i
+bounds-past-i c = search rules
 
-is-between-signed-requires : tie.Need-is-between-signed-requires invariant-loop decreases-loop
-is-between-signed-requires c κs = search rules
+is_between_signed-requires : tie.Need-is_between_signed-requires invariant-loop-i decreases-loop-i
+is_between_signed-requires c κs = search rules
 
 -- a signed number of an entry is what an i32 holds of it
-age-fits : (c : tie.After-struct-told invariant-loop decreases-loop)
-    → SFits w32 (get_or c.before.before.before.before.args.t1 c.before.before.before.loop.i none).age
+age-fits : (c : tie.After-struct_told-1 invariant-loop-i decreases-loop-i)
+    → SFits w32 (get_or c.before.before.before.before.args.past c.before.before.before.loop-i.i none).age
 age-fits c = search rules
 
-looked : (c : tie.After-is-between-signed invariant-loop decreases-loop) →
+looked : (c : tie.After-is_between_signed invariant-loop-i decreases-loop-i) →
     let at = c.before.before.before.before in
-    outside (to_z w32 (of_z w32 at.before.args.frames)) (get_or at.before.args.t1 at.loop.i none) ≡ not c.is-between-signed.result
-looked c = rw (c.is-between-signed.ensures, to_z-of_z (age-fits c.before))
+    outside (to_z w32 (of_z w32 at.before.args.frames)) (get_or at.before.args.past at.loop-i.i none) ≡ not c.is_between_signed.result
+looked c = rw (c.is_between_signed.ensures, to_z-of_z (age-fits c.before))
 
-returns : tie.Need-returns invariant-loop decreases-loop
+returns-then-not-is_between_signed : tie.Need-returns-then-not-is_between_signed invariant-loop-i decreases-loop-i
 unfolding ages_whole
-returns c =
+returns-then-not-is_between_signed c =
     let in-loop = c.before.before.before.before in
     let at = in-loop.before in
     rw (to_z-of_z at.before.ranges.frames) at
-    (stops _ _ _ at.loop.i (room at.before) at.loop.invariant.1 none in-loop.loop-test.true (looked c.before ∙ c.if1.true))
+    (stops _ _ _ at.loop-i.i (room at.before) at.loop-i.invariant.1 none in-loop.loop-i-test.true (looked c.before ∙ c.if-not-is_between_signed.true-raw))
 
-add-i : tie.Need-overflow-add-i invariant-loop decreases-loop
-add-i c = search rules
+overflow_add-i : tie.Need-overflow_add-i invariant-loop-i decreases-loop-i
+overflow_add-i c = search rules
 
-loop-less : tie.Need-loop-smaller invariant-loop decreases-loop
-loop-less c = search rules
+loop-i-smaller : tie.Need-loop-i-smaller invariant-loop-i decreases-loop-i
+loop-i-smaller c = search rules
 
-loop-again : tie.Need-loop-preserved invariant-loop decreases-loop
-loop-again c =
+loop-i-preserved : tie.Need-loop-i-preserved invariant-loop-i decreases-loop-i
+loop-i-preserved c =
     let in-loop = c.before.before.before.before in
     let at = in-loop.before in (
       omega arith,
-      passes _ _ _ at.loop.i (room at.before) at.loop.invariant.1 none in-loop.loop-test.true (looked c.before ∙ c.if1.false),
+      passes _ _ _ at.loop-i.i (room at.before) at.loop-i.invariant.1 none in-loop.loop-i-test.true (looked c.before ∙ c.if-not-is_between_signed.false-raw),
     )
 
-returns-2 : tie.Need-returns-2 invariant-loop decreases-loop
+returns : tie.Need-returns invariant-loop-i decreases-loop-i
 unfolding ages_whole
-returns-2 c =
+returns c =
     let at = c.before in
-    rw (to_z-of_z at.before.ranges.frames) at (ends _ _ _ at.loop.i (room at.before) at.loop.invariant.1 c.loop-test.false)
+    rw (to_z-of_z at.before.ranges.frames) at (ends _ _ _ at.loop-i.i (room at.before) at.loop-i.invariant.1 c.loop-i-test.false)
 
-pub are-ages-whole-spec : {M : Type 1} → statement M
-are-ages-whole-spec =
+pub are_ages_whole_spec : {M : Type 1} → statement M
+are_ages_whole_spec =
     tie.close
     (tie.spec
-    invariant-loop
-    decreases-loop
-    loop-holds
-    mul-entry
-    array-copy-out-entry
-    is-between-signed-requires
-    returns
-    add-i
-    loop-less
-    loop-again
-    returns-2)
+    invariant-loop-i
+    decreases-loop-i
+    loop-i-init
+    offset_bounds-past-i
+    bounds-past-i
+    is_between_signed-requires
+    returns-then-not-is_between_signed
+    overflow_add-i
+    loop-i-smaller
+    loop-i-preserved
+    returns)

@@ -6,12 +6,18 @@ use Rattle.table.specs.Wholeness.{counts_whole}
 use Rattle.table.proofs.wholeness.are_counts_whole.Statement.{statement}
 use Rattle.table.proofs.wholeness.are_counts_whole.Tie as tie
 
-returns : tie.Need-returns
+returns-then-n-gt2000000000 : tie.Need-returns-then-n-gt2000000000
 unfolding counts_whole
-returns c = rw (lt-leb _ 2000000000 c.if1.true, and-false, and-false)
+returns-then-n-gt2000000000 c = rw (lt-leb _ 2000000000 c.if-n-gt2000000000.true, and-false, and-false)
 
-add-next : tie.Need-overflow-add-next
-add-next c = search rules
+overflow_add-next : tie.Need-overflow_add-next
+overflow_add-next c = search rules
+
+both-permanent-requires : tie.Need-both-permanent-requires
+both-permanent-requires c κs = search rules
+
+both-names-requires : tie.Need-both-names-requires
+both-names-requires c κs = search rules
 
 both-requires : tie.Need-both-requires
 both-requires c κs = search rules
@@ -22,35 +28,29 @@ both-requires-2 c κs = search rules
 both-requires-3 : tie.Need-both-requires-3
 both-requires-3 c κs = search rules
 
-both-requires-4 : tie.Need-both-requires-4
-both-requires-4 c κs = search rules
-
-both-requires-5 : tie.Need-both-requires-5
-both-requires-5 c κs = search rules
-
-returns-2 : tie.Need-returns-2
+returns : tie.Need-returns
 unfolding counts_whole
-returns-2 c =
+returns c =
     let tests = c.before.before.before in
     let first = tests.before.before.before in
     rw (
-      c.both5.ensures,
-      c.before.both4.ensures,
-      c.before.before.both3.ensures,
-      tests.both2.ensures,
-      first.both.ensures,
-      le-leb _ 2000000000 first.before.before.before.before.before.before.before.if1.false,
+      c.both-3.ensures,
+      c.before.both-2.ensures,
+      c.before.before.both.ensures,
+      tests.both-names.ensures,
+      first.both-permanent.ensures,
+      le-leb _ 2000000000 first.before.before.before.before.before.before.before.if-n-gt2000000000.false,
     )
 
-pub are-counts-whole-spec : {M : Type 1} → statement M
-are-counts-whole-spec =
+pub are_counts_whole_spec : {M : Type 1} → statement M
+are_counts_whole_spec =
     tie.close
     (tie.spec
-    returns
-    add-next
+    returns-then-n-gt2000000000
+    overflow_add-next
+    both-permanent-requires
+    both-names-requires
     both-requires
     both-requires-2
     both-requires-3
-    both-requires-4
-    both-requires-5
-    returns-2)
+    returns)

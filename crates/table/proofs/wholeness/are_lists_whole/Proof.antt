@@ -4,20 +4,20 @@ use Rattle.table.specs.Wholeness.{lists_whole}
 use Rattle.table.proofs.wholeness.are_lists_whole.Statement.{statement}
 use Rattle.table.proofs.wholeness.are_lists_whole.Tie as tie
 
-is-list-whole-requires : tie.Need-is-list-whole-requires
-is-list-whole-requires c κs = search rules
+is_list_whole-a-requires : tie.Need-is_list_whole-a-requires
+is_list_whole-a-requires c κs = search rules
 
-is-list-whole-requires-2 : tie.Need-is-list-whole-requires-2
-is-list-whole-requires-2 c κs = search rules
+is_list_whole-b-requires : tie.Need-is_list_whole-b-requires
+is_list_whole-b-requires c κs = search rules
 
-is-list-whole-requires-3 : tie.Need-is-list-whole-requires-3
-is-list-whole-requires-3 c κs = search rules
+is_list_whole-c-requires : tie.Need-is_list_whole-c-requires
+is_list_whole-c-requires c κs = search rules
 
-is-list-whole-requires-4 : tie.Need-is-list-whole-requires-4
-is-list-whole-requires-4 c κs = search rules
+is_list_whole-d-requires : tie.Need-is_list_whole-d-requires
+is_list_whole-d-requires c κs = search rules
 
-are-candidates-whole-requires : tie.Need-are-candidates-whole-requires
-are-candidates-whole-requires c κs = search rules
+are_candidates_whole-e-requires : tie.Need-are_candidates_whole-e-requires
+are_candidates_whole-e-requires c κs = search rules
 
 both-requires : tie.Need-both-requires
 both-requires c κs = search rules
@@ -36,26 +36,26 @@ unfolding lists_whole
 returns c =
     let asked = c.before.before.before.before in
     rw (
-      c.both4.ensures,
-      c.before.both3.ensures,
-      c.before.before.both2.ensures,
+      c.both-4.ensures,
+      c.before.both-3.ensures,
+      c.before.before.both-2.ensures,
       c.before.before.before.both.ensures,
-      asked.are-candidates-whole.ensures,
-      asked.before.is-list-whole4.ensures,
-      asked.before.before.is-list-whole3.ensures,
-      asked.before.before.before.is-list-whole2.ensures,
-      asked.before.before.before.before.is-list-whole.ensures,
+      asked.are_candidates_whole-e.ensures,
+      asked.before.is_list_whole-d.ensures,
+      asked.before.before.is_list_whole-c.ensures,
+      asked.before.before.before.is_list_whole-b.ensures,
+      asked.before.before.before.before.is_list_whole-a.ensures,
     )
 
-pub are-lists-whole-spec : {M : Type 1} → statement M
-are-lists-whole-spec =
+pub are_lists_whole_spec : {M : Type 1} → statement M
+are_lists_whole_spec =
     tie.close
     (tie.spec
-    is-list-whole-requires
-    is-list-whole-requires-2
-    is-list-whole-requires-3
-    is-list-whole-requires-4
-    are-candidates-whole-requires
+    is_list_whole-a-requires
+    is_list_whole-b-requires
+    is_list_whole-c-requires
+    is_list_whole-d-requires
+    are_candidates_whole-e-requires
     both-requires
     both-requires-2
     both-requires-3

@@ -15,58 +15,58 @@ use Rattle.table.proofs.wholeness.are_points_whole.Tie as tie
 abbrev above : ℕ → Bool
 above x = ltb 10000 x
 
-abbrev invariant-loop : tie.invariant-loop
-invariant-loop n counters i₀ i = (i ≤ n) × Passed above n counters i
+abbrev invariant-loop-i : tie.invariant-loop-i
+invariant-loop-i n counters i₀ i = (i ≤ n) × Passed above n counters i
 
-abbrev decreases-loop : tie.decreases-loop
-decreases-loop n counters i₀ i = n - i
+abbrev decreases-loop-i : tie.decreases-loop-i
+decreases-loop-i n counters i₀ i = n - i
 
-loop-holds : tie.Need-loop-init invariant-loop decreases-loop
-loop-holds c = (search rules, refl)
+loop-i-init : tie.Need-loop-i-init invariant-loop-i decreases-loop-i
+loop-i-init c = (search rules, refl)
 
-room : (c : tie.Start invariant-loop decreases-loop) → c.args.n ≤ length c.args.t1
+room : (c : tie.Start invariant-loop-i decreases-loop-i) → c.args.n ≤ length c.args.counters
 room c = omega arith
 
-mul-if1 : tie.Need-overflow-mul-if1 invariant-loop decreases-loop
-mul-if1 c = search rules
+offset_bounds-counters-i : tie.Need-offset_bounds-counters-i invariant-loop-i decreases-loop-i
+offset_bounds-counters-i c = search rules
 
-array-read-if1 : tie.Need-array-read-if1 invariant-loop decreases-loop
-array-read-if1 c = search rules
+bounds-counters-i : tie.Need-bounds-counters-i invariant-loop-i decreases-loop-i
+bounds-counters-i c = search rules
 
-returns : tie.Need-returns invariant-loop decreases-loop
+returns-then-counters-i-gt10000 : tie.Need-returns-then-counters-i-gt10000 invariant-loop-i decreases-loop-i
 unfolding points_whole
-returns c =
+returns-then-counters-i-gt10000 c =
     let at = c.before.before in
-    stops above _ _ at.loop.i (room at.before) at.loop.invariant.1 0 c.before.loop-test.true (lt-ltb 10000 _ c.if1.true)
+    stops above _ _ at.loop-i.i (room at.before) at.loop-i.invariant.1 0 c.before.loop-i-test.true (lt-ltb 10000 _ c.if-counters-i-gt10000.true)
 
-add-i : tie.Need-overflow-add-i invariant-loop decreases-loop
-add-i c = search rules
+overflow_add-i : tie.Need-overflow_add-i invariant-loop-i decreases-loop-i
+overflow_add-i c = search rules
 
-loop-less : tie.Need-loop-smaller invariant-loop decreases-loop
-loop-less c = search rules
+loop-i-smaller : tie.Need-loop-i-smaller invariant-loop-i decreases-loop-i
+loop-i-smaller c = search rules
 
-loop-again : tie.Need-loop-preserved invariant-loop decreases-loop
-loop-again c =
+loop-i-preserved : tie.Need-loop-i-preserved invariant-loop-i decreases-loop-i
+loop-i-preserved c =
     let at = c.before.before in (
       omega arith,
-      passes above _ _ at.loop.i (room at.before) at.loop.invariant.1 0 c.before.loop-test.true (le-ltb 10000 _ c.if1.false),
+      passes above _ _ at.loop-i.i (room at.before) at.loop-i.invariant.1 0 c.before.loop-i-test.true (le-ltb 10000 _ c.if-counters-i-gt10000.false),
     )
 
-returns-2 : tie.Need-returns-2 invariant-loop decreases-loop
+returns : tie.Need-returns invariant-loop-i decreases-loop-i
 unfolding points_whole
-returns-2 c = ends above _ _ c.before.loop.i (room c.before.before) c.before.loop.invariant.1 c.loop-test.false
+returns c = ends above _ _ c.before.loop-i.i (room c.before.before) c.before.loop-i.invariant.1 c.loop-i-test.false
 
-pub are-points-whole-spec : {M : Type 1} → statement M
-are-points-whole-spec =
+pub are_points_whole_spec : {M : Type 1} → statement M
+are_points_whole_spec =
     tie.close
     (tie.spec
-    invariant-loop
-    decreases-loop
-    loop-holds
-    mul-if1
-    array-read-if1
-    returns
-    add-i
-    loop-less
-    loop-again
-    returns-2)
+    invariant-loop-i
+    decreases-loop-i
+    loop-i-init
+    offset_bounds-counters-i
+    bounds-counters-i
+    returns-then-counters-i-gt10000
+    overflow_add-i
+    loop-i-smaller
+    loop-i-preserved
+    returns)

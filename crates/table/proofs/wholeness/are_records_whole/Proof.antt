@@ -10,66 +10,66 @@ use Rattle.table.proofs.Passing.{Passed, stops, passes, ends}
 use Rattle.table.proofs.wholeness.are_records_whole.Statement.{statement}
 use Rattle.table.proofs.wholeness.are_records_whole.Tie as tie
 
-abbrev invariant-loop : tie.invariant-loop
-invariant-loop config frames n records i₀ i = (i ≤ n) × Passed (λ o. not (record_whole config frames o)) n records i
+abbrev invariant-loop-i : tie.invariant-loop-i
+invariant-loop-i config frames n records i₀ i = (i ≤ n) × Passed (λ o. not (record_whole config frames o)) n records i
 
-abbrev decreases-loop : tie.decreases-loop
-decreases-loop config frames n records i₀ i = n - i
+abbrev decreases-loop-i : tie.decreases-loop-i
+decreases-loop-i config frames n records i₀ i = n - i
 
-loop-holds : tie.Need-loop-init invariant-loop decreases-loop
-loop-holds c = (search rules, refl)
+loop-i-init : tie.Need-loop-i-init invariant-loop-i decreases-loop-i
+loop-i-init c = (search rules, refl)
 
-room : (c : tie.Start invariant-loop decreases-loop) → c.args.n ≤ length c.args.t3
+room : (c : tie.Start invariant-loop-i decreases-loop-i) → c.args.n ≤ length c.args.records
 room c = omega arith
 
-mul-o : tie.Need-overflow-mul-o invariant-loop decreases-loop
-mul-o c = search rules
+offset_bounds-records-i : tie.Need-offset_bounds-records-i invariant-loop-i decreases-loop-i
+offset_bounds-records-i c = search rules
 
-array-copy-out-o : tie.Need-array-copy-out-o invariant-loop decreases-loop
-array-copy-out-o c = search rules
+bounds-records-i : tie.Need-bounds-records-i invariant-loop-i decreases-loop-i
+bounds-records-i c = search rules
 
-is-record-whole-requires : tie.Need-is-record-whole-requires invariant-loop decreases-loop
-is-record-whole-requires c κs = search rules
+is_record_whole-requires : tie.Need-is_record_whole-requires invariant-loop-i decreases-loop-i
+is_record_whole-requires c κs = search rules
 
-returns : tie.Need-returns invariant-loop decreases-loop
+returns-then-not-is_record_whole : tie.Need-returns-then-not-is_record_whole invariant-loop-i decreases-loop-i
 unfolding records_whole
-returns c =
+returns-then-not-is_record_whole c =
     let in-loop = c.before.before.before in
     let at = in-loop.before in
-    stops _ _ _ at.loop.i (room at.before) at.loop.invariant.1 _ in-loop.loop-test.true (ap not (sym c.before.is-record-whole.ensures) ∙ c.if1.true)
+    stops _ _ _ at.loop-i.i (room at.before) at.loop-i.invariant.1 _ in-loop.loop-i-test.true (ap not (sym c.before.is_record_whole.ensures) ∙ c.if-not-is_record_whole.true-raw)
 
-add-i : tie.Need-overflow-add-i invariant-loop decreases-loop
-add-i c = search rules
+overflow_add-i : tie.Need-overflow_add-i invariant-loop-i decreases-loop-i
+overflow_add-i c = search rules
 
-loop-less : tie.Need-loop-smaller invariant-loop decreases-loop
-loop-less c = search rules
+loop-i-smaller : tie.Need-loop-i-smaller invariant-loop-i decreases-loop-i
+loop-i-smaller c = search rules
 
-loop-again : tie.Need-loop-preserved invariant-loop decreases-loop
-loop-again c =
+loop-i-preserved : tie.Need-loop-i-preserved invariant-loop-i decreases-loop-i
+loop-i-preserved c =
     let in-loop = c.before.before.before in
     let at = in-loop.before in (
       omega arith,
-      passes _ _ _ at.loop.i (room at.before) at.loop.invariant.1 _ in-loop.loop-test.true (ap not (sym c.before.is-record-whole.ensures) ∙ c.if1.false),
+      passes _ _ _ at.loop-i.i (room at.before) at.loop-i.invariant.1 _ in-loop.loop-i-test.true (ap not (sym c.before.is_record_whole.ensures) ∙ c.if-not-is_record_whole.false-raw),
     )
 
-returns-2 : tie.Need-returns-2 invariant-loop decreases-loop
+returns : tie.Need-returns invariant-loop-i decreases-loop-i
 unfolding records_whole
-returns-2 c =
+returns c =
     let at = c.before in
-    ends _ _ _ at.loop.i (room at.before) at.loop.invariant.1 c.loop-test.false
+    ends _ _ _ at.loop-i.i (room at.before) at.loop-i.invariant.1 c.loop-i-test.false
 
-pub are-records-whole-spec : {M : Type 1} → statement M
-are-records-whole-spec =
+pub are_records_whole_spec : {M : Type 1} → statement M
+are_records_whole_spec =
     tie.close
     (tie.spec
-    invariant-loop
-    decreases-loop
-    loop-holds
-    mul-o
-    array-copy-out-o
-    is-record-whole-requires
-    returns
-    add-i
-    loop-less
-    loop-again
-    returns-2)
+    invariant-loop-i
+    decreases-loop-i
+    loop-i-init
+    offset_bounds-records-i
+    bounds-records-i
+    is_record_whole-requires
+    returns-then-not-is_record_whole
+    overflow_add-i
+    loop-i-smaller
+    loop-i-preserved
+    returns)

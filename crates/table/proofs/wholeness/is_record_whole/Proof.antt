@@ -13,12 +13,12 @@ use Rattle.table.specs.Wholeness.{record_whole}
 use Rattle.table.proofs.wholeness.is_record_whole.Statement.{statement}
 use Rattle.table.proofs.wholeness.is_record_whole.Tie as tie
 
-returns : tie.Need-returns
+returns-then-config-n : tie.Need-returns-then-config-n
 unfolding record_whole
-returns c =
-    let hit = c.before.before.before.before.before.before.args.o.life.hit_counter in
+returns-then-config-n c =
+    let hit = c.before.before.before.before.before.before.args.o.life-1.hit_counter in
     rw (
-      lt-leb _ _ c.if1.true,
+      lt-leb _ _ c.if-config-n.true,
       and-false,
       and-false,
       and-false,
@@ -26,23 +26,26 @@ returns c =
       and-false,
     )
 
-is-between-signed-requires : tie.Need-is-between-signed-requires
-is-between-signed-requires c κs = search rules
+is_between_signed-hit-requires : tie.Need-is_between_signed-hit-requires
+is_between_signed-hit-requires c κs = search rules
 
-are-points-whole-requires : tie.Need-are-points-whole-requires
-are-points-whole-requires c κs = search rules
+are_points_whole-points-requires : tie.Need-are_points_whole-points-requires
+are_points_whole-points-requires c κs = search rules
 
-is-counter-between-requires : tie.Need-is-counter-between-requires
-is-counter-between-requires c κs = search rules
+is_counter_between-counter-requires : tie.Need-is_counter_between-counter-requires
+is_counter_between-counter-requires c κs = search rules
+
+both-period-requires : tie.Need-both-period-requires
+both-period-requires c κs = search rules
+
+overflow_cast-frames : tie.Need-overflow_cast-frames
+overflow_cast-frames c = search rules
+
+are_ages_whole-ages-requires : tie.Need-are_ages_whole-ages-requires
+are_ages_whole-ages-requires c κs = search rules
 
 both-requires : tie.Need-both-requires
 both-requires c κs = search rules
-
-cast-are-ages-whole : tie.Need-overflow-cast-are-ages-whole
-cast-are-ages-whole c = search rules
-
-are-ages-whole-requires : tie.Need-are-ages-whole-requires
-are-ages-whole-requires c κs = search rules
 
 both-requires-2 : tie.Need-both-requires-2
 both-requires-2 c κs = search rules
@@ -56,53 +59,50 @@ both-requires-4 c κs = search rules
 both-requires-5 : tie.Need-both-requires-5
 both-requires-5 c κs = search rules
 
-both-requires-6 : tie.Need-both-requires-6
-both-requires-6 c κs = search rules
-
-hit-fits : (c : tie.Start) → SFits w32 c.args.o.life.hit_counter
+hit-fits : (c : tie.Start) → SFits w32 c.args.o.life-1.hit_counter
 hit-fits c = search rules
 
 frames-kept : (c : tie.Start) → to_z w32 c.args.frames ≡ pos c.args.frames
 frames-kept c = to_z_pos w32 (omega arith)
 
-returns-2 : tie.Need-returns-2
+returns : tie.Need-returns
 unfolding record_whole
-returns-2 c =
+returns c =
     let ages = c.before.before.before.before.before in
     let counter = ages.before.before.before.before in
     let hit = counter.before.before in
     let asked = hit.before.before.before in
     let start = asked.before.before.before.before.before.before in
     rw (
-      c.both6.ensures,
-      c.before.both5.ensures,
-      c.before.before.both4.ensures,
-      c.before.before.before.both3.ensures,
-      c.before.before.before.before.both2.ensures,
-      ages.are-ages-whole.ensures,
-      ages.before.both.ensures,
-      counter.is-counter-between.ensures,
-      counter.before.are-points-whole.ensures,
-      hit.is-between-signed.ensures,
-      le-leb _ _ asked.if1.false,
+      c.both-5.ensures,
+      c.before.both-4.ensures,
+      c.before.before.both-3.ensures,
+      c.before.before.before.both-2.ensures,
+      c.before.before.before.before.both.ensures,
+      ages.are_ages_whole-ages.ensures,
+      ages.before.both-period.ensures,
+      counter.is_counter_between-counter.ensures,
+      counter.before.are_points_whole-points.ensures,
+      hit.is_between_signed-hit.ensures,
+      le-leb _ _ asked.if-config-n.false,
       to_z-of_z (hit-fits start),
       frames-kept start,
     )
 
-pub is-record-whole-spec : {M : Type 1} → statement M
-is-record-whole-spec =
+pub is_record_whole_spec : {M : Type 1} → statement M
+is_record_whole_spec =
     tie.close
     (tie.spec
-    returns
-    is-between-signed-requires
-    are-points-whole-requires
-    is-counter-between-requires
+    returns-then-config-n
+    is_between_signed-hit-requires
+    are_points_whole-points-requires
+    is_counter_between-counter-requires
+    both-period-requires
+    overflow_cast-frames
+    are_ages_whole-ages-requires
     both-requires
-    cast-are-ages-whole
-    are-ages-whole-requires
     both-requires-2
     both-requires-3
     both-requires-4
     both-requires-5
-    both-requires-6
-    returns-2)
+    returns)

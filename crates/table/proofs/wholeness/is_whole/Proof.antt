@@ -9,62 +9,62 @@ use Rattle.table.proofs.Facts.{settings_facts, settings_whole_lem, counts_facts}
 use Rattle.table.proofs.wholeness.is_whole.Statement.{statement}
 use Rattle.table.proofs.wholeness.is_whole.Tie as tie
 
-are-settings-whole-requires : tie.Need-are-settings-whole-requires
-are-settings-whole-requires c κs = search rules
+are_settings_whole-requires : tie.Need-are_settings_whole-requires
+are_settings_whole-requires c κs = search rules
 
-settings-pass : (c : tie.Else1) → settings_whole c.before.before.before.before.before.before.args.t.config ≡ true
-settings-pass c = sym c.before.are-settings-whole.ensures ∙ not-false _ c.if1.false
+settings-pass : (c : tie.Else-not-are_settings_whole) → settings_whole c.before.before.before.before.before.before.args.t.config-1 ≡ true
+settings-pass c = sym c.before.are_settings_whole.ensures ∙ not-false _ c.if-not-are_settings_whole.false-raw
 
-counts-pass : (c : tie.Else2) →
+counts-pass : (c : tie.Else-not-are_counts_whole) →
     let t = c.before.before.before.before.before.before.before.before.args.t in
-    counts_whole t.config t.counts ≡ true
-counts-pass c = sym c.before.are-counts-whole.ensures ∙ not-false _ c.if2.false
+    counts_whole t.config-1 t.counts-1 ≡ true
+counts-pass c = sym c.before.are_counts_whole.ensures ∙ not-false _ c.if-not-are_counts_whole.false-raw
+
+returns-then-not-are_settings_whole : tie.Need-returns-then-not-are_settings_whole
+unfolding whole_table
+returns-then-not-are_settings_whole c = rw (sym c.before.are_settings_whole.ensures ∙ not-true _ c.if-not-are_settings_whole.true-raw)
+
+are_counts_whole-requires : tie.Need-are_counts_whole-requires
+are_counts_whole-requires c κs = search rules
+
+returns-then-not-are_counts_whole : tie.Need-returns-then-not-are_counts_whole
+unfolding whole_table
+returns-then-not-are_counts_whole c = rw (settings-pass c.before.before, sym c.before.are_counts_whole.ensures ∙ not-true _ c.if-not-are_counts_whole.true-raw)
+
+are_records_whole-requires : tie.Need-are_records_whole-requires
+are_records_whole-requires c κs =
+    let t = c.before.before.before.before.before.before.before.before.args.t in
+    let settings = settings_facts t.config-1 (settings_whole_lem t.config-1 (settings-pass c.before.before)).0 in
+    let counts = counts_facts t.config-1 t.counts-1 (counts-pass c) in
+    (settings.points.1, settings.history, counts.frames, omega (arith, settings.capacity.1, counts.records-1))
+
+returns-then-not-are_records_whole : tie.Need-returns-then-not-are_records_whole
+unfolding whole_table
+returns-then-not-are_records_whole c = rw (settings-pass c.before.before.before.before, counts-pass c.before.before, sym c.before.are_records_whole.ensures ∙ not-true _ c.if-not-are_records_whole.true-raw)
+
+are_lists_whole-requires : tie.Need-are_lists_whole-requires
+are_lists_whole-requires c κs = search rules
 
 returns : tie.Need-returns
 unfolding whole_table
-returns c = rw (sym c.before.are-settings-whole.ensures ∙ not-true _ c.if1.true)
-
-are-counts-whole-requires : tie.Need-are-counts-whole-requires
-are-counts-whole-requires c κs = search rules
-
-returns-2 : tie.Need-returns-2
-unfolding whole_table
-returns-2 c = rw (settings-pass c.before.before, sym c.before.are-counts-whole.ensures ∙ not-true _ c.if2.true)
-
-are-records-whole-requires : tie.Need-are-records-whole-requires
-are-records-whole-requires c κs =
-    let t = c.before.before.before.before.before.before.before.before.args.t in
-    let settings = settings_facts t.config (settings_whole_lem t.config (settings-pass c.before.before)).0 in
-    let counts = counts_facts t.config t.counts (counts-pass c) in
-    (settings.points.1, settings.history, counts.frames, omega (arith, settings.capacity.1, counts.records))
-
-returns-3 : tie.Need-returns-3
-unfolding whole_table
-returns-3 c = rw (settings-pass c.before.before.before.before, counts-pass c.before.before, sym c.before.are-records-whole.ensures ∙ not-true _ c.if3.true)
-
-are-lists-whole-requires : tie.Need-are-lists-whole-requires
-are-lists-whole-requires c κs = search rules
-
-returns-4 : tie.Need-returns-4
-unfolding whole_table
-returns-4 c =
+returns c =
     let passed = c.before in
     rw (
-      c.are-lists-whole.ensures,
+      c.are_lists_whole.ensures,
       settings-pass passed.before.before.before.before,
       counts-pass passed.before.before,
-      sym passed.before.are-records-whole.ensures ∙ not-false _ passed.if3.false,
+      sym passed.before.are_records_whole.ensures ∙ not-false _ passed.if-not-are_records_whole.false-raw,
     )
 
-pub is-whole-spec : {M : Type 1} → statement M
-is-whole-spec =
+pub is_whole_spec : {M : Type 1} → statement M
+is_whole_spec =
     tie.close
     (tie.spec
-    are-settings-whole-requires
-    returns
-    are-counts-whole-requires
-    returns-2
-    are-records-whole-requires
-    returns-3
-    are-lists-whole-requires
-    returns-4)
+    are_settings_whole-requires
+    returns-then-not-are_settings_whole
+    are_counts_whole-requires
+    returns-then-not-are_counts_whole
+    are_records_whole-requires
+    returns-then-not-are_records_whole
+    are_lists_whole-requires
+    returns)

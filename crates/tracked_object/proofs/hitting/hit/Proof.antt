@@ -7,17 +7,17 @@ use Rattle.parts.proofs.LifeLaws.{issued-hit}
 use Rattle.tracked_object.proofs.hitting.hit.Statement.{statement}
 use Rattle.tracked_object.proofs.hitting.hit.Tie as tie
 
-hit-record-requires : tie.Need-hit-record-requires
-hit-record-requires c κs = search rules
+hit_record-next-requires : tie.Need-hit_record-next-requires
+hit_record-next-requires c κs = search rules
 
-hit-block-requires : tie.Need-hit-block-requires
-hit-block-requires c κs = search rules
+hit_block-requires : tie.Need-hit_block-requires
+hit_block-requires c κs = search rules
 
 both-requires : tie.Need-both-requires
 both-requires c κs = search rules
 
-same_length : tie.Need-same-length
-same_length c = search rules
+shape_of-s : tie.Need-shape_of-s
+shape_of-s c = search rules
 
 issued : (c : tie.After-both)
     → let a = c.before.before.before.before.before.before.before.before.before.before.before.before.args in
@@ -26,13 +26,13 @@ unfolding object_hit
 issued c =
     let a = c.before.before.before.before.before.before.before.before.before.before.before.before.args in
     c.both.ensures
-    ∙ rw c.before.before.before.before.before.before.before.hit-record.ensures
-    (issued-hit a.period a.config.hit_counter_max a.config.initialization_delay a.config.reid_hit_counter_max a.next-id a.o.life)
+    ∙ rw c.before.before.before.before.before.before.before.hit_record-next.ensures
+    (issued-hit a.period a.config.hit_counter_max a.config.initialization_delay a.config.reid_hit_counter_max a.next_id a.o.life)
 
 returns : tie.Need-returns
 unfolding object_hit
-returns c = (rw (issued c, c.before.before.before.before.before.before.before.hit-record.ensures), c.before.before.before.before.hit-block.ensures)
+returns c = (rw (issued c, c.before.before.before.before.before.before.before.hit_record-next.ensures), c.before.before.before.before.hit_block.ensures)
 
-pub hit-spec : {M : Type 1} → statement M
-hit-spec =
-    tie.close (tie.spec hit-record-requires hit-block-requires both-requires same_length returns)
+pub hit_spec : {M : Type 1} → statement M
+hit_spec =
+    tie.close (tie.spec hit_record-next-requires hit_block-requires both-requires shape_of-s returns)

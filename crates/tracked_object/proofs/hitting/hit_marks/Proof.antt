@@ -4,14 +4,14 @@ use borrow.Author.Tests.{lt-ltb, le-ltb}
 use Rattle.tracked_object.proofs.hitting.hit_marks.Statement.{statement}
 use Rattle.tracked_object.proofs.hitting.hit_marks.Tie as tie
 
-push-mark-requires : tie.Need-push-mark-requires
-push-mark-requires c κs = search rules
+push_mark-requires : tie.Need-push_mark-requires
+push_mark-requires c κs = search rules
+
+returns-then-most-gt0 : tie.Need-returns-then-most-gt0
+returns-then-most-gt0 c = rw (lt-ltb 0 c.before.before.args.config.past_detections_length c.before.if-most-gt0.true) c.push_mark.ensures
 
 returns : tie.Need-returns
-returns c = rw (lt-ltb 0 c.before.before.args.config.past_detections_length c.before.if1.true) c.push-mark.ensures
+returns c = rw (le-ltb 0 c.before.args.config.past_detections_length c.if-most-gt0.false)
 
-returns-2 : tie.Need-returns-2
-returns-2 c = rw (le-ltb 0 c.before.args.config.past_detections_length c.if1.false)
-
-pub hit-marks-spec : {M : Type 1} → statement M
-hit-marks-spec = tie.close (tie.spec push-mark-requires returns returns-2)
+pub hit_marks_spec : {M : Type 1} → statement M
+hit_marks_spec = tie.close (tie.spec push_mark-requires returns-then-most-gt0 returns)

@@ -5,44 +5,44 @@ use Rattle.tracked_object.specs.Object.{object_hit}
 use Rattle.tracked_object.proofs.hitting.hit_record.Statement.{statement}
 use Rattle.tracked_object.proofs.hitting.hit_record.Tie as tie
 
-hit-marks-requires : tie.Need-hit-marks-requires
-hit-marks-requires c κs = search rules
+hit_marks-marks-requires : tie.Need-hit_marks-marks-requires
+hit_marks-marks-requires c κs = search rules
 
-hit-points-requires : tie.Need-hit-points-requires
-hit-points-requires c κs = search rules
+hit_points-counters-requires : tie.Need-hit_points-counters-requires
+hit_points-counters-requires c κs = search rules
 
-set-flags-requires : tie.Need-set-flags-requires
-set-flags-requires c κs = search rules
+set_flags-flags-requires : tie.Need-set_flags-flags-requires
+set_flags-flags-requires c κs = search rules
 
-hit-life-requires : tie.Need-hit-life-requires
-hit-life-requires c κs = search rules
+hit_life-life-requires : tie.Need-hit_life-life-requires
+hit_life-life-requires c κs = search rules
 
-next-count-requires : tie.Need-next-count-requires
-next-count-requires c κs = c.before.before.before.before.before.before.before.before.before.before.before.requires.1.history
+next_count-requires : tie.Need-next_count-requires
+next_count-requires c κs = c.before.before.before.before.before.before.before.before.before.before.before.requires.1.history
 
 -- the two signed settings are what an i32 holds of them
 returns : tie.Need-returns
 unfolding object_hit
 returns c =
     let config = c.before.before.before.before.before.before.before.before.before.before.before.before.args.config in
-    let told = c.before.before.before.before.struct_told.given in
+    let told = c.before.before.before.before.struct_told-1.given in
     rw (
-      c.before.before.before.before.before.before.before.before.before.hit-marks.ensures,
-      c.next-count.ensures,
-      c.before.before.before.before.before.before.before.hit-points.ensures,
-      c.before.before.before.before.before.before.set-flags.ensures,
-      c.before.before.hit-life.ensures,
+      c.before.before.before.before.before.before.before.before.before.hit_marks-marks.ensures,
+      c.next_count.ensures,
+      c.before.before.before.before.before.before.before.hit_points-counters.ensures,
+      c.before.before.before.before.before.before.set_flags-flags.ensures,
+      c.before.before.hit_life-life.ensures,
       to_z-of_z {z = config.hit_counter_max} (record { sfits = told.1.1.1.1.0.1 }),
       to_z-of_z {z = config.initialization_delay} (record { sfits = told.1.1.1.1.1.0.1 }),
     )
 
-pub hit-record-spec : {M : Type 1} → statement M
-hit-record-spec =
+pub hit_record_spec : {M : Type 1} → statement M
+hit_record_spec =
     tie.close
     (tie.spec
-    hit-marks-requires
-    hit-points-requires
-    set-flags-requires
-    hit-life-requires
-    next-count-requires
+    hit_marks-marks-requires
+    hit_points-counters-requires
+    set_flags-flags-requires
+    hit_life-life-requires
+    next_count-requires
     returns)

@@ -17,81 +17,81 @@ use Rattle.tracked_object.proofs.merging.conditionally_add_to_past_detections.St
 }
 use Rattle.tracked_object.proofs.merging.conditionally_add_to_past_detections.Tie as tie
 
-takes-entry-requires : tie.Need-takes-entry-requires
-takes-entry-requires c κs = search rules
+takes_entry-requires : tie.Need-takes_entry-requires
+takes_entry-requires c κs = search rules
 
-returns : tie.Need-returns
+returns-then-not-takes_entry : tie.Need-returns-then-not-takes_entry
 unfolding conditionally_added
-returns c = rw (sym c.before.takes-entry.ensures ∙ not-true c.before.takes-entry.result c.if1.true)
+returns-then-not-takes_entry c = rw (sym c.before.takes_entry.ensures ∙ not-true c.before.takes_entry.result c.if-not-takes_entry.true-raw)
 
-took : (c : tie.Else1)
+took : (c : tie.Else-not-takes_entry)
     → takes c.before.before.before.before.args.config c.before.before.before.before.args.age c.before.before.before.before.args.marks.past c.before.before.before.before.args.marks.count ≡ true
-took c = sym c.before.takes-entry.ensures ∙ not-false c.before.takes-entry.result c.if1.false
+took c = sym c.before.takes_entry.ensures ∙ not-false c.before.takes_entry.result c.if-not-takes_entry.false-raw
 
-some : (c : tie.Else1) → 0 < c.before.before.before.before.args.config.past_detections_length
+some : (c : tie.Else-not-takes_entry) → 0 < c.before.before.before.before.args.config.past_detections_length
 some c = some_of c.before.before.before.before.args.config.past_detections_length _ (took c)
 
-layout-of-requires : tie.Need-layout-of-requires
-layout-of-requires c κs = search rules
+layout_of-at-requires : tie.Need-layout_of-at-requires
+layout_of-at-requires c κs = search rules
 
-make-room-requires : tie.Need-make-room-requires
-make-room-requires c κs = (rw c.before.before.layout_of.ensures (omega arith), some c.before.before.before)
+make_room-requires : tie.Need-make_room-requires
+make_room-requires c κs = (rw c.before.before.layout_of-at.ensures (omega arith), some c.before.before.before)
 
-place-of-requires : tie.Need-place-of-requires
-place-of-requires c κs =
+place_of-place-requires : tie.Need-place_of-place-requires
+place_of-place-requires c κs =
     let s = c.before.before.before.before.before.before.before.before.before.before in (
-      rw c.before.before.before.before.before.layout_of.ensures (omega (arith, block-most s.args.config s.requires.0)),
+      rw c.before.before.before.before.before.layout_of-at.ensures (omega (arith, block-most s.args.config s.requires.0)),
       some c.before.before.before.before.before.before,
       search rules,
     )
 
-write-at-requires : tie.Need-write-at-requires
-write-at-requires c κs =
+write_at-requires : tie.Need-write_at-requires
+write_at-requires c κs =
     let e = c.before.before.before.before.before.before.before.before in
     let a = e.before.before.before.before.args in
-    rw (c.before.place_of.ensures, c.before.before.before.before.before.before.before.layout_of.ensures)
+    rw (c.before.place_of-place.ensures, c.before.before.before.before.before.before.before.layout_of-at.ensures)
     (omega (arith, inside a.config.past_detections_length (width a.config) a.marks.count (some e)))
 
-cast-t21 : tie.Need-overflow-cast-t21
-cast-t21 c = record { sfits = omega arith }
+overflow_cast-mark : tie.Need-overflow_cast-mark
+overflow_cast-mark c = record { sfits = omega arith }
 
-push-mark-requires : tie.Need-push-mark-requires
-push-mark-requires c κs =
+push_mark-past-requires : tie.Need-push_mark-past-requires
+push_mark-past-requires c κs =
     (some c.before.before.before.before.before.before.before.before.before.before.before, search rules, search rules)
 
-next-count-requires : tie.Need-next-count-requires
-next-count-requires c κs = search rules
+next_count-requires : tie.Need-next_count-requires
+next_count-requires c κs = search rules
 
-same_length : tie.Need-same-length
-same_length c = search rules
+shape_of-s : tie.Need-shape_of-s
+shape_of-s c = search rules
 
-returns-2 : tie.Need-returns-2
+returns : tie.Need-returns
 unfolding conditionally_added
-returns-2 c =
+returns c =
     let e = c.before.before.before.before.before.before.before.before.before.before.before.before.before in
     rw (
       took e,
-      c.before.push-mark.ensures,
-      c.next-count.ensures,
-      c.before.before.before.before.write-at.ensures,
-      c.before.before.before.before.before.before.place_of.ensures,
-      c.before.before.before.before.before.before.before.before.before.make-room.ensures,
-      c.before.before.before.before.before.before.before.before.before.before.before.before.layout_of.ensures,
-      to_z-of_z {z = pos e.before.before.before.before.args.age} (cast-t21 c.before.before),
+      c.before.push_mark-past.ensures,
+      c.next_count.ensures,
+      c.before.before.before.before.write_at.ensures,
+      c.before.before.before.before.before.before.place_of-place.ensures,
+      c.before.before.before.before.before.before.before.before.before.make_room.ensures,
+      c.before.before.before.before.before.before.before.before.before.before.before.before.layout_of-at.ensures,
+      to_z-of_z {z = pos e.before.before.before.before.args.age} (overflow_cast-mark c.before.before),
     )
 
-pub conditionally-add-to-past-detections-spec : {M : Type 1} → statement M
-conditionally-add-to-past-detections-spec =
+pub conditionally_add_to_past_detections_spec : {M : Type 1} → statement M
+conditionally_add_to_past_detections_spec =
     tie.close
     (tie.spec
-    takes-entry-requires
-    returns
-    layout-of-requires
-    make-room-requires
-    place-of-requires
-    write-at-requires
-    cast-t21
-    push-mark-requires
-    next-count-requires
-    same_length
-    returns-2)
+    takes_entry-requires
+    returns-then-not-takes_entry
+    layout_of-at-requires
+    make_room-requires
+    place_of-place-requires
+    write_at-requires
+    overflow_cast-mark
+    push_mark-past-requires
+    next_count-requires
+    shape_of-s
+    returns)

@@ -5,27 +5,27 @@ use Rattle.tracked_object.specs.Object.{History, object_merged}
 use Rattle.tracked_object.proofs.merging.merge.Statement.{statement}
 use Rattle.tracked_object.proofs.merging.merge.Tie as tie
 
-take-over-requires : tie.Need-take-over-requires
-take-over-requires c κs = search rules
+take_over-requires : tie.Need-take_over-requires
+take_over-requires c κs = search rules
 
-merge-past-requires : tie.Need-merge-past-requires
-merge-past-requires c κs =
+merge_past-marks-requires : tie.Need-merge_past-marks-requires
+merge_past-marks-requires c κs =
     let p = c.before.before.before.before.before.before.before.before.before.before.requires in
     (p.0, search rules, p.1.ages, search rules, search rules, search rules, search rules)
 
-merge-life-requires : tie.Need-merge-life-requires
-merge-life-requires c κs = search rules
+merge_life-life-requires : tie.Need-merge_life-life-requires
+merge_life-life-requires c κs = search rules
 
-same_length : tie.Need-same-length
-same_length c = search rules
+shape_of-s : tie.Need-shape_of-s
+shape_of-s c = search rules
 
 returns : tie.Need-returns
 unfolding object_merged
 returns c =
-    let m = rw c.before.before.before.before.before.before.before.before.before.take-over.ensures at c.before.before.before.before.merge-past.ensures in
-    (rw (c.merge-life.ensures, ← m), ap (λ (h : History). h.floats) m)
+    let m = rw c.before.before.before.before.before.before.before.before.before.take_over.ensures at c.before.before.before.before.merge_past-marks.ensures in
+    (rw (c.merge_life-life.ensures, ← m), ap (λ (h : History). h.floats) m)
 
-pub merge-spec : {M : Type 1} → statement M
-merge-spec =
+pub merge_spec : {M : Type 1} → statement M
+merge_spec =
     tie.close
-    (tie.spec take-over-requires merge-past-requires merge-life-requires same_length returns)
+    (tie.spec take_over-requires merge_past-marks-requires merge_life-life-requires shape_of-s returns)

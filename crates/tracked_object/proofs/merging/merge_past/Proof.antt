@@ -21,20 +21,20 @@ use Rattle.tracked_object.proofs.MergeLaws.{HistoryKept, turn, kept_turns, entry
 use Rattle.tracked_object.proofs.merging.merge_past.Statement.{statement}
 use Rattle.tracked_object.proofs.merging.merge_past.Tie as tie
 
-abbrev invariant-loop : tie.invariant-loop
-invariant-loop config marks₀ age s₀ from at width entries n i₀ marks s i =
+abbrev invariant-loop-i : tie.invariant-loop-i
+invariant-loop-i config marks₀ age s₀ from at width entries n i₀ marks s i =
     (i ≤ n)
     × (history marks.past marks.count s ≡ turns (turn config age entries from) i (history marks₀.past marks₀.count s₀))
 
-abbrev decreases-loop : tie.decreases-loop
-decreases-loop config marks₀ age s₀ from at width entries n i₀ marks s i = n - i
+abbrev decreases-loop-i : tie.decreases-loop-i
+decreases-loop-i config marks₀ age s₀ from at width entries n i₀ marks s i = n - i
 
-layout-of-requires : tie.Need-layout-of-requires invariant-loop decreases-loop
-layout-of-requires c κs = search rules
+layout_of-at-requires : tie.Need-layout_of-at-requires invariant-loop-i decreases-loop-i
+layout_of-at-requires c κs = search rules
 
-loop-holds : tie.Need-loop-init invariant-loop decreases-loop
+loop-i-init : tie.Need-loop-i-init invariant-loop-i decreases-loop-i
 unfolding turns
-loop-holds c = (search rules, refl)
+loop-i-init c = (search rules, refl)
 
 -- where the code reads entry i
 module _ (config : TrackerConfig) (at : Layout) (e : at ≡ layout_of config) (from : List Float) (i : ℕ) where
@@ -49,117 +49,117 @@ module _ (config : TrackerConfig) (at : Layout) (e : at ≡ layout_of config) (f
   inside : length from ≡ block_size config → i < config.past_detections_length → start + at.width ≤ length from
   inside whole h = rw (e, whole) (entry_inside config i h)
 
-abbrev given : tie.At-loop invariant-loop decreases-loop → tie.Start invariant-loop decreases-loop
+abbrev given : tie.At-loop-i invariant-loop-i decreases-loop-i → tie.Start invariant-loop-i decreases-loop-i
 given c = c.before.before.before.before.before
 
 -- the marks and the block of every turn are in range
-kept : (c : tie.At-loop invariant-loop decreases-loop)
-    → HistoryKept (given c).args.config (take (past_place (given c).args.config) (given c).args.s.now) (history c.loop.marks.past c.loop.marks.count c.loop.s)
+kept : (c : tie.At-loop-i invariant-loop-i decreases-loop-i)
+    → HistoryKept (given c).args.config (take (past_place (given c).args.config) (given c).args.s.now) (history c.loop-i.marks.past c.loop-i.marks.count c.loop-i.s)
 kept c =
     let a = (given c).args in
     let p = (given c).requires in
-    let eight : length a.marks.past ≡ 8 = simp length-map at (given c).well-formed.1.0.1.1.0.1.0.1 in
-    rw c.loop.invariant.1
-    (kept_turns a.config p.0 a.age p.3 _ a.candidate.past a.from.now c.loop.i _ p.5 (omega arith)
+    let eight : length a.marks.past ≡ 8 = simp length-map at (given c).well_formed.1.0.1.1.0.1.0.1 in
+    rw c.loop-i.invariant.1
+    (kept_turns a.config p.0 a.age p.3 _ a.candidate.past a.from.now c.loop-i.i _ p.5 (omega arith)
     record { counted = p.1; eight = eight; aged = p.2; long = p.6; kept = refl })
 
 -- entry i lies in the candidate's block
-room : (c : tie.In-loop invariant-loop decreases-loop)
-    → (c.before.before.before.layout_of.result.past_at + c.before.loop.i * c.before.before.before.layout_of.result.width + c.before.before.before.layout_of.result.width ≤ length (given c.before).args.from.now)
+room : (c : tie.In-loop-i invariant-loop-i decreases-loop-i)
+    → (c.before.before.before.layout_of-at.result.past_at + c.before.loop-i.i * c.before.before.before.layout_of-at.result.width + c.before.before.before.layout_of-at.result.width ≤ length (given c.before).args.from.now)
     × (length (given c.before).args.from.now ≤ 864)
 room c =
     let a = (given c.before).args in
     let p = (given c.before).pre in
-    let made = c.before.before.before.layout_of in
-    (inside a.config made.result made.ensures a.from.now c.before.loop.i p.5 (omega arith), omega (arith, block-most a.config p.0))
+    let made = c.before.before.before.layout_of-at in
+    (inside a.config made.result made.ensures a.from.now c.before.loop-i.i p.5 (omega arith), omega (arith, block-most a.config p.0))
 
-mul-start : tie.Need-overflow-mul-start invariant-loop decreases-loop
-mul-start c = let h = room c in record { fits = omega arith }
+overflow_mul-start : tie.Need-overflow_mul-start invariant-loop-i decreases-loop-i
+overflow_mul-start c = let h = room c in record { fits = omega arith }
 
-add_start : tie.Need-overflow-add-start invariant-loop decreases-loop
-add_start c = let h = room c.before in record { fits = omega arith }
+overflow_add-start : tie.Need-overflow_add-start invariant-loop-i decreases-loop-i
+overflow_add-start c = let h = room c.before in record { fits = omega arith }
 
-add-end : tie.Need-overflow-add-end invariant-loop decreases-loop
-add-end c = let h = room c.before in record { fits = omega arith }
+overflow_add-end : tie.Need-overflow_add-end invariant-loop-i decreases-loop-i
+overflow_add-end c = let h = room c.before in record { fits = omega arith }
 
-mul-mark : tie.Need-overflow-mul-mark invariant-loop decreases-loop
-mul-mark c = search rules
+offset_bounds-entries-i : tie.Need-offset_bounds-entries-i invariant-loop-i decreases-loop-i
+offset_bounds-entries-i c = search rules
 
-array-copy-out-mark : tie.Need-array-copy-out-mark invariant-loop decreases-loop
-array-copy-out-mark c = search rules
+bounds-entries-i : tie.Need-bounds-entries-i invariant-loop-i decreases-loop-i
+bounds-entries-i c = search rules
 
-mul-conditionally-add-to-past-detections :
-    tie.Need-overflow-mul-conditionally-add-to-past-detections invariant-loop decreases-loop
-mul-conditionally-add-to-past-detections c = let h = room c.before.before.before in record { fits = omega arith }
+offset_bounds-from-start :
+    tie.Need-offset_bounds-from-start invariant-loop-i decreases-loop-i
+offset_bounds-from-start c = let h = room c.before.before.before in record { fits = omega arith }
 
-sub-conditionally-add-to-past-detections :
-    tie.Need-overflow-sub-conditionally-add-to-past-detections invariant-loop decreases-loop
-sub-conditionally-add-to-past-detections c = search rules
+slice_bounds-conditionally_add_to_past_detections-count :
+    tie.Need-slice_bounds-conditionally_add_to_past_detections-count invariant-loop-i decreases-loop-i
+slice_bounds-conditionally_add_to_past_detections-count c = search rules
 
-part-conditionally-add-to-past-detections-start :
-    tie.Need-slice-bounds-conditionally-add-to-past-detections-start invariant-loop decreases-loop
-part-conditionally-add-to-past-detections-start c = search rules
+slice_bounds-conditionally_add_to_past_detections-start :
+    tie.Need-slice_bounds-conditionally_add_to_past_detections-start invariant-loop-i decreases-loop-i
+slice_bounds-conditionally_add_to_past_detections-start c = search rules
 
-part-conditionally-add-to-past-detections-end :
-    tie.Need-slice-bounds-conditionally-add-to-past-detections-end invariant-loop decreases-loop
-part-conditionally-add-to-past-detections-end c = (room c.before.before.before).0
+slice_bounds-conditionally_add_to_past_detections-end :
+    tie.Need-slice_bounds-conditionally_add_to_past_detections-end invariant-loop-i decreases-loop-i
+slice_bounds-conditionally_add_to_past_detections-end c = (room c.before.before.before).0
 
-conditionally-add-to-past-detections-requires :
-    tie.Need-conditionally-add-to-past-detections-requires invariant-loop decreases-loop
-conditionally-add-to-past-detections-requires c κs =
+conditionally_add_to_past_detections-marks-requires :
+    tie.Need-conditionally_add_to_past_detections-marks-requires invariant-loop-i decreases-loop-i
+conditionally_add_to_past_detections-marks-requires c κs =
     let l = c.before.before.before.before.before in
     let a = (given l).args in
     let p = (given l).requires in
-    let made = l.before.before.layout_of in
-    let whole = length-entry a.config a.from.now l.loop.i p.5 (omega arith) in
-    (p.0, (kept l).counted, (kept l).aged, p.3, rw (lent a.config made.result made.ensures a.from.now l.loop.i) whole, (kept l).long)
+    let made = l.before.before.layout_of-at in
+    let whole = length-entry a.config a.from.now l.loop-i.i p.5 (omega arith) in
+    (p.0, (kept l).counted, (kept l).aged, p.3, rw (lent a.config made.result made.ensures a.from.now l.loop-i.i) whole, (kept l).long)
 
-add-i : tie.Need-overflow-add-i invariant-loop decreases-loop
-add-i c = search rules
+overflow_add-i : tie.Need-overflow_add-i invariant-loop-i decreases-loop-i
+overflow_add-i c = search rules
 
-loop-less : tie.Need-loop-smaller invariant-loop decreases-loop
-loop-less c = search rules
+loop-i-smaller : tie.Need-loop-i-smaller invariant-loop-i decreases-loop-i
+loop-i-smaller c = search rules
 
-loop-again : tie.Need-loop-preserved invariant-loop decreases-loop
-loop-again c =
+loop-i-preserved : tie.Need-loop-i-preserved invariant-loop-i decreases-loop-i
+loop-i-preserved c =
     let t = c.before.before.before.before.before.before.before in
     let a = (given t.before).args in
-    let loop = t.before.loop in
+    let loop = t.before.loop-i in
     let eight : length a.candidate.past ≡ 8 = simp length-map at (given t.before).good.1.1.1.1.0.1.1.0.1.0.1 in
-    let mark = get_or-any a.candidate.past loop.i record { age = pos 0; has_scores = false } unaged (omega (arith, t.loop-test.true)) in
-    let made = t.before.before.before.layout_of in
-    let turned = rw (lent a.config made.result made.ensures a.from.now loop.i, mark) at c.before.before.conditionally-add-to-past-detections.ensures in
+    let mark = get_or-any a.candidate.past loop.i record { age = pos 0; has_scores = false } unaged (omega (arith, t.loop-i-test.true)) in
+    let made = t.before.before.before.layout_of-at in
+    let turned = rw (lent a.config made.result made.ensures a.from.now loop.i, mark) at c.before.before.conditionally_add_to_past_detections-marks.ensures in
     (search rules, turns_next (turn a.config a.age a.candidate.past a.from.now) loop.i _ turned loop.invariant.1)
 
-same_length : tie.Need-same-length invariant-loop decreases-loop
-same_length c = (kept c.before).long ∙ sym (given c.before).pre.6
+shape_of-s : tie.Need-shape_of-s invariant-loop-i decreases-loop-i
+shape_of-s c = (kept c.before).long ∙ sym (given c.before).pre.6
 
-returns : tie.Need-returns invariant-loop decreases-loop
+returns : tie.Need-returns invariant-loop-i decreases-loop-i
 unfolding history_merged
 returns c =
-    let e : c.before.loop.i ≡ (given c.before).args.candidate.past_count = omega arith in
-    rw e at c.before.loop.invariant.1
+    let e : c.before.loop-i.i ≡ (given c.before).args.candidate.past_count = omega arith in
+    rw e at c.before.loop-i.invariant.1
 
-pub merge-past-spec : {M : Type 1} → statement M
-merge-past-spec =
+pub merge_past_spec : {M : Type 1} → statement M
+merge_past_spec =
     tie.close
     (tie.spec
-    invariant-loop
-    decreases-loop
-    layout-of-requires
-    loop-holds
-    mul-start
-    add_start
-    add-end
-    mul-mark
-    array-copy-out-mark
-    mul-conditionally-add-to-past-detections
-    sub-conditionally-add-to-past-detections
-    part-conditionally-add-to-past-detections-start
-    part-conditionally-add-to-past-detections-end
-    conditionally-add-to-past-detections-requires
-    add-i
-    loop-less
-    loop-again
-    same_length
+    invariant-loop-i
+    decreases-loop-i
+    layout_of-at-requires
+    loop-i-init
+    overflow_mul-start
+    overflow_add-start
+    overflow_add-end
+    offset_bounds-entries-i
+    bounds-entries-i
+    offset_bounds-from-start
+    slice_bounds-conditionally_add_to_past_detections-count
+    slice_bounds-conditionally_add_to_past_detections-start
+    slice_bounds-conditionally_add_to_past_detections-end
+    conditionally_add_to_past_detections-marks-requires
+    overflow_add-i
+    loop-i-smaller
+    loop-i-preserved
+    shape_of-s
     returns)

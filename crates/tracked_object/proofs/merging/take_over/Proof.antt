@@ -8,64 +8,64 @@ use Rattle.parts.proofs.Bounds.{coords-most}
 use Rattle.tracked_object.proofs.merging.take_over.Statement.{statement}
 use Rattle.tracked_object.proofs.merging.take_over.Tie as tie
 
-layout-of-requires : tie.Need-layout-of-requires
-layout-of-requires c κs = search rules
+layout_of-at-requires : tie.Need-layout_of-at-requires
+layout_of-at-requires c κs = search rules
 
-mul-write-at : tie.Need-overflow-mul-write-at
-mul-write-at c =
+overflow_mul-at : tie.Need-overflow_mul-at
+overflow_mul-at c =
     let s = c.before.before.before.before.before in
-    rw c.before.before.layout_of.ensures record { fits = omega (arith, coords-most s.args.config s.requires.0) }
+    rw c.before.before.layout_of-at.ensures record { fits = omega (arith, coords-most s.args.config s.requires.0) }
 
-write-at-requires : tie.Need-write-at-requires
-write-at-requires c κs = rw c.before.before.layout_of.ensures (omega arith)
+write_at-requires : tie.Need-write_at-requires
+write_at-requires c κs = rw c.before.before.layout_of-at.ensures (omega arith)
 
-mul-write-at-2 : tie.Need-overflow-mul-write-at-2
-mul-write-at-2 c =
+offset_bounds-from-last_at : tie.Need-offset_bounds-from-last_at
+offset_bounds-from-last_at c =
     let s = c.before.before.before.before.before.before.before.before.before in
-    rw c.before.before.before.before.before.before.layout_of.ensures record { fits = omega (arith, coords-most s.args.config s.requires.0) }
+    rw c.before.before.before.before.before.before.layout_of-at.ensures record { fits = omega (arith, coords-most s.args.config s.requires.0) }
 
-sub-write-at : tie.Need-overflow-sub-write-at
-sub-write-at c = rw c.before.before.before.before.before.before.layout_of.ensures (omega arith)
+slice_bounds-write_at-count : tie.Need-slice_bounds-write_at-count
+slice_bounds-write_at-count c = rw c.before.before.before.before.before.before.layout_of-at.ensures (omega arith)
 
-part-write-at-start : tie.Need-slice-bounds-write-at-start
-part-write-at-start c = sub-write-at c
+slice_bounds-write_at-start : tie.Need-slice_bounds-write_at-start
+slice_bounds-write_at-start c = slice_bounds-write_at-count c
 
-part-write-at-end : tie.Need-slice-bounds-write-at-end
-part-write-at-end c = search rules
+slice_bounds-write_at-end : tie.Need-slice_bounds-write_at-end
+slice_bounds-write_at-end c = search rules
 
-write-at-requires-2 : tie.Need-write-at-requires-2
-write-at-requires-2 c κs =
+write_at-requires-2 : tie.Need-write_at-requires-2
+write_at-requires-2 c κs =
     let s = c.before.before.before.before.before.before.before.before.before.before in
     let from = s.args.from.now in
-    let n = c.before.before.before.before.write-at.auto.0 in
+    let n = c.before.before.before.before.write_at.auto.0 in
     let d = length-drop (last_place s.args.config) from in
-    rw c.before.before.before.before.before.before.before.layout_of.ensures
+    rw c.before.before.before.before.before.before.before.layout_of-at.ensures
     (omega arith, rw (part_to_end from (last_place s.args.config)) (omega arith))
 
-same_length : tie.Need-same-length
-same_length c = search rules
+shape_of-s : tie.Need-shape_of-s
+shape_of-s c = search rules
 
 returns : tie.Need-returns
 returns c =
     let s = c.before.before.before.before.before.before.before.before.before.before.before.before.before in
     rw (
-      c.before.before.write-at2.ensures,
-      c.before.before.before.before.before.before.before.write-at.ensures,
-      c.before.before.before.before.before.before.before.before.before.before.layout_of.ensures,
+      c.before.before.write_at-2.ensures,
+      c.before.before.before.before.before.before.before.write_at.ensures,
+      c.before.before.before.before.before.before.before.before.before.before.layout_of-at.ensures,
       part_to_end s.args.from.now (last_place s.args.config),
     )
 
-pub take-over-spec : {M : Type 1} → statement M
-take-over-spec =
+pub take_over_spec : {M : Type 1} → statement M
+take_over_spec =
     tie.close
     (tie.spec
-    layout-of-requires
-    mul-write-at
-    write-at-requires
-    mul-write-at-2
-    sub-write-at
-    part-write-at-start
-    part-write-at-end
-    write-at-requires-2
-    same_length
+    layout_of-at-requires
+    overflow_mul-at
+    write_at-requires
+    offset_bounds-from-last_at
+    slice_bounds-write_at-count
+    slice_bounds-write_at-start
+    slice_bounds-write_at-end
+    write_at-requires-2
+    shape_of-s
     returns)

@@ -8,58 +8,58 @@ use Rattle.parts.proofs.LifeLaws.{issued-opened}
 use Rattle.tracked_object.proofs.opening.open.Statement.{statement}
 use Rattle.tracked_object.proofs.opening.open.Tie as tie
 
-layout-of-requires : tie.Need-layout-of-requires
-layout-of-requires c κs = search rules
+layout_of-at-requires : tie.Need-layout_of-at-requires
+layout_of-at-requires c κs = search rules
 
 make-requires : tie.Need-make-requires
 make-requires c κs =
     let s = c.before.before.before.before.before.before in
-    rw c.before.before.layout_of.ensures (omega (arith, filter_inside s.args.config), omega arith)
+    rw c.before.before.layout_of-at.ensures (omega (arith, filter_inside s.args.config), omega arith)
 
-write-detection-requires : tie.Need-write-detection-requires
-write-detection-requires c κs =
+write_detection-requires : tie.Need-write_detection-requires
+write_detection-requires c κs =
     let s = c.before.before.before.before.before.before.before.before.before.before in
-    rw c.before.before.before.before.before.before.layout_of.ensures (omega (arith, last_inside s.args.config), omega arith, omega arith)
+    rw c.before.before.before.before.before.before.layout_of-at.ensures (omega (arith, last_inside s.args.config), omega arith, omega arith)
 
-open-life-requires : tie.Need-open-life-requires
-open-life-requires c κs = search rules
+open_life-life-requires : tie.Need-open_life-life-requires
+open_life-life-requires c κs = search rules
 
-opened-counter-requires : tie.Need-opened-counter-requires
-opened-counter-requires c κs = search rules
+opened_counter-counter-requires : tie.Need-opened_counter-counter-requires
+opened_counter-counter-requires c κs = search rules
 
-set-flags-requires : tie.Need-set-flags-requires
-set-flags-requires c κs =
+set_flags-flags-requires : tie.Need-set_flags-flags-requires
+set_flags-flags-requires c κs =
     let s = c.before.before.before.before.before.before.before.before.before.before.before.before.before.before.before.before in
     (s.requires.0.points-most, omega arith)
 
-same_length : tie.Need-same-length
-same_length c = search rules
+shape_of-s : tie.Need-shape_of-s
+shape_of-s c = search rules
 
 returns : tie.Need-returns
 unfolding object_opened block_opened
 returns c =
     let a = c.before.before.before.before.before.before.before.before.before.before.before.before.before.before.before.before.before.before.args in
-    let told = c.before.before.before.before.struct_told.given in
+    let told = c.before.before.before.before.struct_told-1.given in
     let stored = c.before.before.before.before.before.before.before in (
       rw (
-        c.before.before.opened-counter.ensures,
-        c.before.set-flags.ensures,
-        c.before.before.before.open-life.ensures,
+        c.before.before.opened_counter-counter.ensures,
+        c.before.set_flags-flags.ensures,
+        c.before.before.before.open_life-life.ensures,
         to_z-of_z {z = a.config.initialization_delay} (record { sfits = told.1.1.1.1.1.0.1 }),
-        issued-opened a.period a.config.initialization_delay a.next-id,
+        issued-opened a.period a.config.initialization_delay a.next_id,
       ),
-      rw (stored.write-detection.ensures, stored.before.before.before.before.make.ensures, stored.before.before.before.before.before.before.before.layout_of.ensures),
+      rw (stored.write_detection.ensures, stored.before.before.before.before.make.ensures, stored.before.before.before.before.before.before.before.layout_of-at.ensures),
     )
 
 pub open_spec : {M : Type 1} → statement M
 open_spec =
     tie.close
     (tie.spec
-    layout-of-requires
+    layout_of-at-requires
     make-requires
-    write-detection-requires
-    open-life-requires
-    opened-counter-requires
-    set-flags-requires
-    same_length
+    write_detection-requires
+    open_life-life-requires
+    opened_counter-counter-requires
+    set_flags-flags-requires
+    shape_of-s
     returns)

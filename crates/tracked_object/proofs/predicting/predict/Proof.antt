@@ -6,37 +6,37 @@ use Rattle.parts.proofs.Bounds.{filter_inside}
 use Rattle.tracked_object.proofs.predicting.predict.Statement.{statement}
 use Rattle.tracked_object.proofs.predicting.predict.Tie as tie
 
-layout-of-requires : tie.Need-layout-of-requires
-layout-of-requires c κs = search rules
+layout_of-at-requires : tie.Need-layout_of-at-requires
+layout_of-at-requires c κs = search rules
 
 predict-requires : tie.Need-predict-requires
 predict-requires c κs =
-    rw c.before.layout_of.ensures (omega (arith, filter_inside c.before.before.before.args.config))
+    rw c.before.layout_of-at.ensures (omega (arith, filter_inside c.before.before.before.args.config))
 
-fall-points-requires : tie.Need-fall-points-requires
-fall-points-requires c κs = search rules
+fall_points-counters-requires : tie.Need-fall_points-counters-requires
+fall_points-counters-requires c κs = search rules
 
-predict-life-requires : tie.Need-predict-life-requires
-predict-life-requires c κs = search rules
+predict_life-life-requires : tie.Need-predict_life-life-requires
+predict_life-life-requires c κs = search rules
 
-same_length : tie.Need-same-length
-same_length c = search rules
+shape_of-s : tie.Need-shape_of-s
+shape_of-s c = search rules
 
 returns : tie.Need-returns
 unfolding object_predicted
 returns c =
     let filter = c.before.before.before.before.before.before in (
-      rw (c.before.fall-points.ensures, c.predict-life.ensures),
-      rw (filter.predict.ensures, filter.before.before.layout_of.ensures),
+      rw (c.before.fall_points-counters.ensures, c.predict_life-life.ensures),
+      rw (filter.predict.ensures, filter.before.before.layout_of-at.ensures),
     )
 
-pub predict-spec : {M : Type 1} → statement M
-predict-spec =
+pub predict_spec : {M : Type 1} → statement M
+predict_spec =
     tie.close
     (tie.spec
-    layout-of-requires
+    layout_of-at-requires
     predict-requires
-    fall-points-requires
-    predict-life-requires
-    same_length
+    fall_points-counters-requires
+    predict_life-life-requires
+    shape_of-s
     returns)
