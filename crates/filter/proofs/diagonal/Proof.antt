@@ -11,10 +11,10 @@ abbrev by : Bool → Bool → Float
 by mask above = cond (mask && not above) f0 f1
 
 returns-then-score-threshold : tie.Need-returns-then-score-threshold
-returns-then-score-threshold c = sym (ap₂ by c.before.if-mask.true c.if-score-threshold.true)
+returns-then-score-threshold c = sym (ap₂ by c.if-mask.true c.if-score-threshold.true)
 
 returns-then-mask : tie.Need-returns-then-mask
-returns-then-mask c = sym (ap₂ by c.before.if-mask.true c.if-score-threshold.false)
+returns-then-mask c = sym (ap₂ by c.if-mask.true c.if-score-threshold.false)
 
 returns : tie.Need-returns
 returns c = rw c.if-mask.false

@@ -9,7 +9,7 @@ some_at_most-requires c κs = search rules
 
 returns-then-has_scores : tie.Need-returns-then-has_scores
 unfolding mask_exists
-returns-then-has_scores c = rw c.before.if-has_scores.true c.some_at_most.ensures
+returns-then-has_scores c = rw c.if-has_scores.true c.some_at_most.ensures
 
 returns : tie.Need-returns
 unfolding mask_exists

@@ -33,10 +33,10 @@ loop-j-smaller c = search rules
 loop-j-preserved : tie.Need-loop-j-preserved invariant-loop-j decreases-loop-j
 loop-j-preserved c =
     let s = c.before.before.before.before.before.before.before in
-    let loop = c.before.before.before.before.before.loop-j in
-    let call = c.before.before.predict_at in (
+    let loop = c.loop-j in
+    let call = c.predict_at in (
       search rules,
-      call.auto.0 ∙ loop.invariant.1,
+      call.auto.block ∙ loop.invariant.1,
       turns_next (turn predict_of s.args.n) loop.j s.args.block.now call.ensures loop.invariant.2,
     )
 
@@ -45,8 +45,8 @@ shape_of-block c = search rules
 
 returns : tie.Need-returns invariant-loop-j decreases-loop-j
 returns c =
-    let e : c.before.loop-j.j ≡ c.before.before.before.args.n = omega arith in
-    rw e at c.before.loop-j.invariant.2
+    let e : c.loop-j.j ≡ c.args.n = omega arith in
+    rw e at c.loop-j.invariant.2
 
 pub predict_spec : {M : Type 1} → statement M
 predict_spec =

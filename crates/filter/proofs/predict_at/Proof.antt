@@ -18,7 +18,7 @@ shape_of-block c = search rules
 returns : tie.Need-returns
 returns c =
     rw
-    (c.before.before.put_coordinate.ensures, c.before.before.before.predict_coordinate.ensures, c.before.before.before.before.before.read_coordinate-c.ensures)
+    (c.put_coordinate.ensures, c.predict_coordinate.ensures, c.read_coordinate-c.ensures)
 
 pub predict_at_spec : {M : Type 1} → statement M
 predict_at_spec =

@@ -29,7 +29,7 @@ bounds-scores-i c = search rules
 returns-then-scores-i : tie.Need-returns-then-scores-i invariant-loop-i decreases-loop-i
 returns-then-scores-i c =
     let s = c.before.before.before.before in
-    let loop = c.before.before.before.loop-i in
+    let loop = c.loop-i in
     sym (loop.invariant.1 ∙ any_here (λ x. le x s.args.threshold) s.args.scores.now loop.i nan (omega arith) c.if-scores-i.true)
 
 overflow_add-i : tie.Need-overflow_add-i invariant-loop-i decreases-loop-i
@@ -41,7 +41,7 @@ loop-i-smaller c = search rules
 loop-i-preserved : tie.Need-loop-i-preserved invariant-loop-i decreases-loop-i
 loop-i-preserved c =
     let s = c.before.before.before.before in
-    let loop = c.before.before.before.loop-i in (
+    let loop = c.loop-i in (
       omega arith,
       rw add-one (loop.invariant.1 ∙ any_on (λ x. le x s.args.threshold) s.args.scores.now loop.i nan (omega arith) c.if-scores-i.false),
     )
@@ -49,7 +49,7 @@ loop-i-preserved c =
 returns : tie.Need-returns invariant-loop-i decreases-loop-i
 returns c =
     let s = c.before.before in
-    let loop = c.before.loop-i in
+    let loop = c.loop-i in
     sym (loop.invariant.1 ∙ any_end (λ x. le x s.args.threshold) s.args.scores.now loop.i (omega arith))
 
 pub some_at_most_spec : {M : Type 1} → statement M

@@ -13,7 +13,7 @@ shape_of-block : tie.Need-shape_of-block
 shape_of-block c = search rules
 
 returns : tie.Need-returns
-returns c = rw (c.before.before.put_coordinate.ensures, c.before.before.before.start_coordinate.ensures)
+returns c = rw (c.put_coordinate.ensures, c.start_coordinate.ensures)
 
 pub start_at_spec : {M : Type 1} → statement M
 start_at_spec =

@@ -31,13 +31,13 @@ nonzero_div-j c = search rules
 
 -- the score of coordinate j's point is there
 inside : (c : tie.In-loop-j invariant-loop-j decreases-loop-j)
-    → c.before.loop-j.j / c.before.before.before.before.before.before.args.k < length c.before.before.before.before.before.before.args.scores.now
+    → c.loop-j.j / c.args.k < length c.args.scores.now
 inside c =
     let s = c.before.before.before.before.before.before in
-    (div-lt_iff_lt-mul {k = s.args.k} {x = c.before.loop-j.j} {y = length s.args.scores.now} s.requires.0).1 (omega arith)
+    (div-lt_iff_lt-mul {k = s.args.k} {x = c.loop-j.j} {y = length s.args.scores.now} s.requires.0).1 (omega arith)
 
 offset_bounds-scores-j : tie.Need-offset_bounds-scores-j invariant-loop-j decreases-loop-j
-offset_bounds-scores-j c = scaled_Fits _ _ 8 (inside c) c.before.before.before.before.before.before.well_formed.1.1.1.1.1.1.1.0.1
+offset_bounds-scores-j c = scaled_Fits _ _ 8 (inside c) c.well_formed.1.1.1.1.1.1.1.0.1
 
 bounds-scores-j : tie.Need-bounds-scores-j invariant-loop-j decreases-loop-j
 bounds-scores-j c = inside c.before
@@ -63,16 +63,16 @@ loop-j-smaller c = search rules
 loop-j-preserved : tie.Need-loop-j-preserved invariant-loop-j decreases-loop-j
 loop-j-preserved c =
     let s = c.before.before.before.before.before.before.before.before.before.before.before.before.before in
-    let mask = c.before.before.before.before.before.before.before.before.before.needs_mask-mask.result in
-    let loop = c.before.before.before.before.before.before.before.before.loop-j in
-    let call = c.before.before.update_at in (
+    let mask = c.needs_mask-mask.result in
+    let loop = c.loop-j in
+    let call = c.update_at in (
       search rules,
-      call.auto.0 ∙ loop.invariant.1,
+      call.auto.block ∙ loop.invariant.1,
       turns_next
           (turn (update_of s.args.f s.args.k s.args.points.now mask s.args.threshold s.args.scores.now) s.args.n)
           loop.j
           s.args.block.now
-          (rw c.before.before.before.before.before.diagonal-d.ensures at call.ensures)
+          (rw c.diagonal-d.ensures at call.ensures)
           loop.invariant.2,
     )
 
@@ -82,11 +82,11 @@ shape_of-block c = search rules
 returns : tie.Need-returns invariant-loop-j decreases-loop-j
 returns c =
     let s = c.before.before.before.before.before.before in
-    let e : c.before.loop-j.j ≡ s.args.n = omega arith in
-    (rw e at c.before.loop-j.invariant.2)
+    let e : c.loop-j.j ≡ s.args.n = omega arith in
+    (rw e at c.loop-j.invariant.2)
     ∙ ap
     (λ (mask : Bool). each (update_of s.args.f s.args.k s.args.points.now mask s.args.threshold s.args.scores.now) s.args.n s.args.block.now)
-    c.before.before.needs_mask-mask.ensures
+    c.needs_mask-mask.ensures
 
 pub update_spec : {M : Type 1} → statement M
 update_spec =

@@ -18,7 +18,7 @@ shape_of-block c = search rules
 returns : tie.Need-returns
 returns c =
     rw
-    (c.before.before.put_coordinate.ensures, c.before.before.before.update_coordinate.ensures, c.before.before.before.before.before.read_coordinate-c.ensures)
+    (c.put_coordinate.ensures, c.update_coordinate.ensures, c.read_coordinate-c.ensures)
 
 pub update_at_spec : {M : Type 1} → statement M
 update_at_spec =

@@ -36,9 +36,9 @@ bounds-numbers-i c = search rules
 returns-then-numbers-i : tie.Need-returns-then-numbers-i invariant-loop-i decreases-loop-i
 returns-then-numbers-i c =
     let s = c.before.before.before.before in
-    let i = c.before.before.before.loop-i.i in
+    let i = c.loop-i.i in
     sym
-    (c.before.before.before.loop-i.invariant.1
+    (c.loop-i.invariant.1
     ∙ any_here (λ y. eqb y s.args.x) (take s.args.n s.args.numbers.now) i 0 (omega (arith, whole s))
     (rw (get_or-take s.args.n s.args.numbers.now i 0 (omega arith)) (eq-eqb _ _ c.if-numbers-i.true)))
 
@@ -51,9 +51,9 @@ loop-i-smaller c = search rules
 loop-i-preserved : tie.Need-loop-i-preserved invariant-loop-i decreases-loop-i
 loop-i-preserved c =
     let s = c.before.before.before.before in
-    let i = c.before.before.before.loop-i.i in (
+    let i = c.loop-i.i in (
       omega arith,
-      rw add-one (c.before.before.before.loop-i.invariant.1
+      rw add-one (c.loop-i.invariant.1
           ∙ any_on (λ y. eqb y s.args.x) (take s.args.n s.args.numbers.now) i 0 (omega (arith, whole s))
           (rw (get_or-take s.args.n s.args.numbers.now i 0 (omega arith)) (ne_eqb _ _ c.if-numbers-i.false))),
     )
@@ -62,8 +62,8 @@ returns : tie.Need-returns invariant-loop-i decreases-loop-i
 returns c =
     let s = c.before.before in
     sym
-    (c.before.loop-i.invariant.1
-    ∙ any_end (λ y. eqb y s.args.x) (take s.args.n s.args.numbers.now) c.before.loop-i.i (omega (arith, whole s)))
+    (c.loop-i.invariant.1
+    ∙ any_end (λ y. eqb y s.args.x) (take s.args.n s.args.numbers.now) c.loop-i.i (omega (arith, whole s)))
 
 pub is_among_spec : {M : Type 1} → statement M
 is_among_spec =

@@ -14,7 +14,7 @@ both-requires : tie.Need-both-requires
 both-requires c κs = search rules
 
 returns : tie.Need-returns
-returns c = rw (c.both.ensures, c.before.is_finite.ensures)
+returns c = rw (c.both.ensures, c.is_finite.ensures)
 
 pub counts_spec : {M : Type 1} → statement M
 counts_spec = tie.close (tie.spec is_finite-requires both-requires returns)

@@ -1,7 +1,6 @@
 -- `matching::get_unmatched` meets its contract: the array holds the unmatched numbers below i.
 use mathlib.Core.Path.{◌≡◌, refl, sym, ◌∙◌, ap}
 use mathlib.Core.Bool.{Bool, not}
-use mathlib.Core.Logic.{⊎_elim}
 use Prim.Native.Nat.{ℕ, ◌≤◌, ◌-◌}
 use native.Mathlib.Omega.{arith}
 use borrow.Author.Rules.{rules}
@@ -12,6 +11,7 @@ use Rattle.matching.specs.Unmatched.{unmatched}
 use Rattle.matching.proofs.Left.{at_most-total}
 use Rattle.matching.proofs.get_unmatched.Statement.{statement}
 use Rattle.matching.proofs.get_unmatched.Tie as tie
+use Rattle.matching.proofs.get_unmatched.Lts.{then-not-is_among, else-not-is_among}
 
 abbrev invariant-loop-i : tie.invariant-loop-i
 invariant-loop-i total n matched at₀ count₀ i₀ at count i = (i ≤ total) × Stands 64 (unmatched i (take n matched)) at count
@@ -30,12 +30,12 @@ is_among-requires : tie.Need-is_among-requires invariant-loop-i decreases-loop-i
 is_among-requires c κs = search rules
 
 -- there is room for one number more
-room : (c : tie.Then-not-is_among invariant-loop-i decreases-loop-i) → c.before.before.before.before.loop-i.count ≤ 63
+room : (c : tie.Then-not-is_among invariant-loop-i decreases-loop-i) → c.loop-i.count ≤ 63
 room c =
     omega (
       arith,
-      at_most-total c.before.before.before.before.loop-i.i
-          (take c.before.before.before.before.before.args.n c.before.before.before.before.before.args.matched),
+      at_most-total c.loop-i.i
+          (take c.args.n c.args.matched),
     )
 
 offset_bounds-at-count : tie.Need-offset_bounds-at-count invariant-loop-i decreases-loop-i
@@ -56,19 +56,19 @@ loop-i-smaller c = search rules
 loop-i-preserved : tie.Need-loop-i-preserved invariant-loop-i decreases-loop-i
 loop-i-preserved c =
     let s = c.before.before.before.before.before in
-    let loop = c.before.before.before.before.loop-i in
+    let loop = c.loop-i in
     let ms = take s.args.n s.args.matched in
     let p : ℕ → Bool = λ i. not (holds i ms) in
-    let told = ap not (sym c.before.is_among.ensures) in
-    ⊎_elim
-    (λ w. (omega arith, rw (w.1, w.2) (below_joins 64 p loop.i (omega arith) (told ∙ w.0.taken) loop.invariant.1)))
-    (λ w. (omega arith, rw (w.1, w.2) (below_stays 64 p loop.i (told ∙ w.0.left) loop.invariant.1)))
-    c.if-not-is_among.branch
+    let told = ap not (sym c.is_among.ensures) in
+    elim c.if-not-is_among.branch [
+      then-not-is_among w ↦ (omega arith, rw (w.at-is, w.count-is) (below_joins 64 p loop.i (omega arith) (told ∙ ap not w.if-not-is_among.true) loop.invariant.1))
+    | else-not-is_among w ↦ (omega arith, rw (w.at-is, w.count-is) (below_stays 64 p loop.i (told ∙ ap not w.if-not-is_among.false) loop.invariant.1))
+    ]
 
 returns : tie.Need-returns invariant-loop-i decreases-loop-i
 returns c =
-    let e : c.before.loop-i.i ≡ c.before.before.args.total = omega arith in
-    rw (c.before.loop-i.invariant.1.0, c.before.loop-i.invariant.1.1, e)
+    let e : c.loop-i.i ≡ c.args.total = omega arith in
+    rw (c.loop-i.invariant.1.0, c.loop-i.invariant.1.1, e)
 
 pub get_unmatched_spec : {M : Type 1} → statement M
 get_unmatched_spec =

@@ -34,15 +34,15 @@ enum_told-1 c = search rules
 
 -- the place found is the next pick
 found : (c : tie.In-At invariant-loop-n decreases-loop-n)
-    → next_pick (lent c.before.before.before.before.before.before.before.args.matrix.now c.before.before.before.before.before.before.before.args.rows c.before.before.before.before.before.before.before.args.cols c.before.before.before.before.before.before.before.args.threshold) c.before.before.before.before.before.loop-n.used_rows c.before.before.before.before.before.loop-n.used_cols
-    ≡ At c.before.place-1.given.0.0 c.before.place-1.given.0.1.0
-found c = sym c.before.before.before.next_pick-place.ensures ∙ c.before.place-1.given.1
+    → next_pick (lent c.args.matrix.now c.args.rows c.args.cols c.args.threshold) c.loop-n.used_rows c.loop-n.used_cols
+    ≡ At c.in-At.i c.in-At.j
+found c = sym c.next_pick-place.ensures ∙ c.in-At.is
 
 bounds-used_rows-i : tie.Need-bounds-used_rows-i invariant-loop-n decreases-loop-n
-bounds-used_rows-i c = le_trans (next_in_range (lent c.before.before.before.before.before.before.before.args.matrix.now c.before.before.before.before.before.before.before.args.rows c.before.before.before.before.before.before.before.args.cols c.before.before.before.before.before.before.before.args.threshold) c.before.before.before.before.before.loop-n.used_rows c.before.before.before.before.before.loop-n.used_cols (found c)).0 c.before.before.before.before.before.before.before.requires.0
+bounds-used_rows-i c = le_trans (next_in_range (lent c.args.matrix.now c.args.rows c.args.cols c.args.threshold) c.loop-n.used_rows c.loop-n.used_cols (found c)).0 c.requires.0
 
 bounds-used_cols-j : tie.Need-bounds-used_cols-j invariant-loop-n decreases-loop-n
-bounds-used_cols-j c = le_trans (next_in_range (lent c.before.before.before.before.before.before.before.args.matrix.now c.before.before.before.before.before.before.before.args.rows c.before.before.before.before.before.before.before.args.cols c.before.before.before.before.before.before.before.args.threshold) c.before.before.before.before.before.loop-n.used_rows c.before.before.before.before.before.loop-n.used_cols (found c)).1 c.before.before.before.before.before.before.before.requires.1
+bounds-used_cols-j c = le_trans (next_in_range (lent c.args.matrix.now c.args.rows c.args.cols c.args.threshold) c.loop-n.used_rows c.loop-n.used_cols (found c)).1 c.requires.1
 
 offset_bounds-picked_rows-n : tie.Need-offset_bounds-picked_rows-n invariant-loop-n decreases-loop-n
 offset_bounds-picked_rows-n c = search rules
@@ -65,24 +65,24 @@ loop-n-smaller c = search rules
 loop-n-preserved : tie.Need-loop-n-preserved invariant-loop-n decreases-loop-n
 loop-n-preserved c = (
   omega arith,
-  held_next (lent c.before.before.before.before.before.before.before.args.matrix.now c.before.before.before.before.before.before.before.args.rows c.before.before.before.before.before.before.before.args.cols c.before.before.before.before.before.before.before.args.threshold) c.before.before.before.before.before.before.before.args.used_rows c.before.before.before.before.before.before.before.args.used_cols c.before.place-1.given.0.0 c.before.place-1.given.0.1.0
-      c.before.before.before.before.loop-n-test.true
-      c.before.before.before.before.before.before.before.requires.0
+  held_next (lent c.args.matrix.now c.args.rows c.args.cols c.args.threshold) c.args.used_rows c.args.used_cols c.in-At.i c.in-At.j
+      c.loop-n-test.true
+      c.requires.0
       (found c)
-      c.before.before.before.before.before.loop-n.invariant.1,
+      c.loop-n.invariant.1,
 )
 
 returns-after-loop-n : tie.Need-returns-after-loop-n invariant-loop-n decreases-loop-n
 unfolding greedy
 returns-after-loop-n c =
-    let none-to-come : c.before.before.before.args.rows - c.before.loop-n.n ≡ 0 = omega arith in
-    held_last (lent c.before.before.before.args.matrix.now c.before.before.before.args.rows c.before.before.before.args.cols c.before.before.before.args.threshold) c.before.before.before.args.used_rows c.before.before.before.args.used_cols (rw none-to-come) c.before.loop-n.invariant.1
+    let none-to-come : c.args.rows - c.loop-n.n ≡ 0 = omega arith in
+    held_last (lent c.args.matrix.now c.args.rows c.args.cols c.args.threshold) c.args.used_rows c.args.used_cols (rw none-to-come) c.loop-n.invariant.1
 
 returns-in_default : tie.Need-returns-in_default invariant-loop-n decreases-loop-n
 returns-in_default c =
-    held_last (lent c.before.before.before.before.before.before.args.matrix.now c.before.before.before.before.before.before.args.rows c.before.before.before.before.before.before.args.cols c.before.before.before.before.before.before.args.threshold) c.before.before.before.before.before.before.args.used_rows c.before.before.before.before.before.before.args.used_cols
-    (greedy_ends (lent c.before.before.before.before.before.before.args.matrix.now c.before.before.before.before.before.before.args.rows c.before.before.before.before.before.before.args.cols c.before.before.before.before.before.before.args.threshold) _ c.before.before.before.before.loop-n.used_rows c.before.before.before.before.loop-n.used_cols (sym c.before.before.next_pick-place.ensures ∙ c.enum_told-1.given.1))
-    c.before.before.before.before.loop-n.invariant.1
+    held_last (lent c.args.matrix.now c.args.rows c.args.cols c.args.threshold) c.args.used_rows c.args.used_cols
+    (greedy_ends (lent c.args.matrix.now c.args.rows c.args.cols c.args.threshold) _ c.loop-n.used_rows c.loop-n.used_cols (sym c.next_pick-place.ensures ∙ c.in_default.is))
+    c.loop-n.invariant.1
 
 pub match_detections_and_objects_spec : {M : Type 1} → statement M
 match_detections_and_objects_spec =

@@ -1,6 +1,5 @@
 -- `matching::next_pick` meets its contract: the column scan holds `scan_row`, the row scan `scan_rows`, and the outer loop has one turn.
 use mathlib.Core.Path.{◌≡◌, refl, sym, ◌∙◌, ap₂}
-use mathlib.Core.Logic.{⊎_elim}
 use Prim.Native.Nat.{ℕ, ◌≤◌, ◌<◌, ◌+◌, ◌*◌, ◌-◌}
 use lib.ListN.{length, get_or}
 use borrow.Author.Rules.{scaled_Fits}
@@ -16,6 +15,7 @@ use Rattle.matching.proofs.Best.{Best, beats_is, look-taken, look_left}
 use borrow.Author.Rules.{rules}
 use Rattle.matching.proofs.next_pick.Statement.{statement}
 use Rattle.matching.proofs.next_pick.Tie as tie
+use Rattle.matching.proofs.next_pick.Lts.{then-both, else-both}
 use Rattle.matching.proofs.next_pick.Reads as reads
 use Rattle.matching.proofs.next_pick.Lts as lts
 use Rattle.laws.proofs.both.Reads as both-reads
@@ -51,21 +51,21 @@ loop-i-init c = (search rules, refl, tt)
 
 loop-j-init : tie.Need-loop-j-init invariant-loop-j decreases-loop-j invariant-loop-i decreases-loop-i invariant-loop-used_rows decreases-loop-used_rows
 unfolding scan_row
-loop-j-init c = (search rules, refl, c.before.loop-i.invariant.2)
+loop-j-init c = (search rules, refl, c.loop-i.invariant.2)
 
 -- the entry looked at lies in the lent matrix
 inside : (c : tie.In-loop-j invariant-loop-j decreases-loop-j invariant-loop-i decreases-loop-i invariant-loop-used_rows decreases-loop-used_rows)
-    → c.before.before.before.loop-i.i * c.before.before.before.before.before.before.args.cols + c.before.loop-j.j < length c.before.before.before.before.before.before.args.matrix.now
-inside c = cell_below c.before.before.loop-i-test.true c.loop-j-test.true c.before.before.before.before.before.before.requires.2
+    → c.loop-i.i * c.args.cols + c.loop-j.j < length c.args.matrix.now
+inside c = cell_below c.loop-i-test.true c.loop-j-test.true c.requires.2
 
 overflow_mul-x : tie.Need-overflow_mul-x invariant-loop-j decreases-loop-j invariant-loop-i decreases-loop-i invariant-loop-used_rows decreases-loop-used_rows
-overflow_mul-x c = record { fits = omega (arith, inside c, c.before.before.before.before.before.before.well_formed.0.0) }
+overflow_mul-x c = record { fits = omega (arith, inside c, c.well_formed.0.0) }
 
 overflow_add-x : tie.Need-overflow_add-x invariant-loop-j decreases-loop-j invariant-loop-i decreases-loop-i invariant-loop-used_rows decreases-loop-used_rows
-overflow_add-x c = record { fits = omega (arith, inside c, c.before.before.before.before.before.before.well_formed.0.0) }
+overflow_add-x c = record { fits = omega (arith, inside c, c.well_formed.0.0) }
 
 offset_bounds-matrix-i : tie.Need-offset_bounds-matrix-i invariant-loop-j decreases-loop-j invariant-loop-i decreases-loop-i invariant-loop-used_rows decreases-loop-used_rows
-offset_bounds-matrix-i c = scaled_Fits _ _ 8 (inside c) c.before.before.before.before.before.before.well_formed.0.1
+offset_bounds-matrix-i c = scaled_Fits _ _ 8 (inside c) c.well_formed.0.1
 
 bounds-matrix-i :
     tie.Need-bounds-matrix-i invariant-loop-j decreases-loop-j invariant-loop-i decreases-loop-i invariant-loop-used_rows decreases-loop-used_rows
@@ -100,47 +100,47 @@ loop-j-smaller c = search rules
 
 -- what a turn of the column scan looks at
 abbrev seen : tie.Joined-both invariant-loop-j decreases-loop-j invariant-loop-i decreases-loop-i invariant-loop-used_rows decreases-loop-used_rows → Matrix
-seen c = lent c.before.before.before.before.before.before.before.before.before.before.before.before.before.args.matrix.now c.before.before.before.before.before.before.before.before.before.before.before.before.before.args.rows c.before.before.before.before.before.before.before.before.before.before.before.before.before.args.cols c.before.before.before.before.before.before.before.before.before.before.before.before.before.args.threshold
+seen c = lent c.args.matrix.now c.args.rows c.args.cols c.args.threshold
 
 abbrev row : tie.Joined-both invariant-loop-j decreases-loop-j invariant-loop-i decreases-loop-i invariant-loop-used_rows decreases-loop-used_rows → ℕ
-row c = c.before.before.before.before.before.before.before.before.before.before.loop-i.i
+row c = c.loop-i.i
 
 abbrev col : tie.Joined-both invariant-loop-j decreases-loop-j invariant-loop-i decreases-loop-i invariant-loop-used_rows decreases-loop-used_rows → ℕ
-col c = c.before.before.before.before.before.before.before.before.loop-j.j
+col c = c.loop-j.j
 
 abbrev found : tie.Joined-both invariant-loop-j decreases-loop-j invariant-loop-i decreases-loop-i invariant-loop-used_rows decreases-loop-used_rows → Place
-found c = c.before.before.before.before.before.before.before.before.loop-j.place
+found c = c.loop-j.place
 
 -- both flags lie within their arrays
-flag-row : (c : tie.Joined-both invariant-loop-j decreases-loop-j invariant-loop-i decreases-loop-i invariant-loop-used_rows decreases-loop-used_rows) → get_or c.before.before.before.before.before.before.before.before.before.before.before.before.before.args.used_rows (row c) false ≡ get_or c.before.before.before.before.before.before.before.before.before.before.before.before.before.args.used_rows (row c) true
-flag-row c = get_or-any c.before.before.before.before.before.before.before.before.before.before.before.before.before.args.used_rows (row c) false true (omega (arith, c.before.before.before.before.before.before.before.before.before.before.before.before.before.well_formed.1.1.1.1.0.1.0.1))
+flag-row : (c : tie.Joined-both invariant-loop-j decreases-loop-j invariant-loop-i decreases-loop-i invariant-loop-used_rows decreases-loop-used_rows) → get_or c.args.used_rows (row c) false ≡ get_or c.args.used_rows (row c) true
+flag-row c = get_or-any c.args.used_rows (row c) false true (omega (arith, c.well_formed.1.1.1.1.0.1.0.1))
 
-flag-col : (c : tie.Joined-both invariant-loop-j decreases-loop-j invariant-loop-i decreases-loop-i invariant-loop-used_rows decreases-loop-used_rows) → get_or c.before.before.before.before.before.before.before.before.before.before.before.before.before.args.used_cols (col c) false ≡ get_or c.before.before.before.before.before.before.before.before.before.before.before.before.before.args.used_cols (col c) true
-flag-col c = get_or-any c.before.before.before.before.before.before.before.before.before.before.before.before.before.args.used_cols (col c) false true (omega (arith, c.before.before.before.before.before.before.before.before.before.before.before.before.before.well_formed.1.1.1.1.1.0.1.0.1))
+flag-col : (c : tie.Joined-both invariant-loop-j decreases-loop-j invariant-loop-i decreases-loop-i invariant-loop-used_rows decreases-loop-used_rows) → get_or c.args.used_cols (col c) false ≡ get_or c.args.used_cols (col c) true
+flag-col c = get_or-any c.args.used_cols (col c) false true (omega (arith, c.well_formed.1.1.1.1.1.0.1.0.1))
 
 -- the turn's test is that of `look`
 test : (c : tie.Joined-both invariant-loop-j decreases-loop-j invariant-loop-i decreases-loop-i invariant-loop-used_rows decreases-loop-used_rows)
-    → c.before.both.result ≡ (eligible (seen c) c.before.before.before.before.before.before.before.before.before.before.before.before.before.args.used_rows c.before.before.before.before.before.before.before.before.before.before.before.before.before.args.used_cols (row c) (col c) && smaller (seen c).entry ((seen c).entry (row c) (col c)) (found c))
+    → c.both.result ≡ (eligible (seen c) c.args.used_rows c.args.used_cols (row c) (col c) && smaller (seen c).entry ((seen c).entry (row c) (col c)) (found c))
 test c =
-    c.before.both.ensures
-    ∙ ap₂ ◌&&◌ (c.before.before.before.both-eligible.ensures ∙ ap₂ ◌&&◌ c.before.before.before.before.counts.ensures (c.before.before.before.before.before.both-free.ensures ∙ ap₂ (λ a b. not a && not b) (flag-row c) (flag-col c)))
-    (c.before.before.beats.ensures ∙ beats_is (seen c) (found c) c.before.before.before.before.before.before.before.before.loop-j.best ((seen c).entry (row c) (col c)) c.before.before.before.before.before.before.before.before.loop-j.invariant.2)
+    c.both.ensures
+    ∙ ap₂ ◌&&◌ (c.both-eligible.ensures ∙ ap₂ ◌&&◌ c.counts.ensures (c.both-free.ensures ∙ ap₂ (λ a b. not a && not b) (flag-row c) (flag-col c)))
+    (c.beats.ensures ∙ beats_is (seen c) (found c) c.loop-j.best ((seen c).entry (row c) (col c)) c.loop-j.invariant.2)
 
 loop-j-preserved : tie.Need-loop-j-preserved invariant-loop-j decreases-loop-j invariant-loop-i decreases-loop-i invariant-loop-used_rows decreases-loop-used_rows
 unfolding scan_row
 loop-j-preserved c =
-    ⊎_elim
-    (λ w. (
+    elim c.if-both.branch [
+      then-both w ↦ (
       omega arith,
-      rw (add-one, w.1, ← c.before.before.before.before.before.before.before.before.loop-j.invariant.1) (look-taken (seen c) c.before.before.before.before.before.before.before.before.before.before.before.before.before.args.used_rows c.before.before.before.before.before.before.before.before.before.before.before.before.before.args.used_cols (row c) (col c) (found c) c.before.both.result (test c) w.0.taken),
-      rw (w.1, w.2) refl,
-    ))
-    (λ w. (
+      rw (add-one, w.place-is, ← c.loop-j.invariant.1) (look-taken (seen c) c.args.used_rows c.args.used_cols (row c) (col c) (found c) c.both.result (test c) w.if-both.true),
+      rw (w.place-is, w.best-is) refl,
+    )
+    | else-both w ↦ (
       omega arith,
-      rw (add-one, w.1, ← c.before.before.before.before.before.before.before.before.loop-j.invariant.1) (look_left (seen c) c.before.before.before.before.before.before.before.before.before.before.before.before.before.args.used_rows c.before.before.before.before.before.before.before.before.before.before.before.before.before.args.used_cols (row c) (col c) (found c) c.before.both.result (test c) w.0.left),
-      rw (w.1, w.2) c.before.before.before.before.before.before.before.before.loop-j.invariant.2,
-    ))
-    c.if-both.branch
+      rw (add-one, w.place-is, ← c.loop-j.invariant.1) (look_left (seen c) c.args.used_rows c.args.used_cols (row c) (col c) (found c) c.both.result (test c) w.if-both.false),
+      rw (w.place-is, w.best-is) c.loop-j.invariant.2,
+    )
+    ]
 
 overflow_add-i : tie.Need-overflow_add-i invariant-loop-j decreases-loop-j invariant-loop-i decreases-loop-i invariant-loop-used_rows decreases-loop-used_rows
 overflow_add-i c = search rules
@@ -151,11 +151,11 @@ loop-i-smaller c = search rules
 loop-i-preserved : tie.Need-loop-i-preserved invariant-loop-j decreases-loop-j invariant-loop-i decreases-loop-i invariant-loop-used_rows decreases-loop-used_rows
 unfolding scan_rows
 loop-i-preserved c =
-    let e : c.before.loop-j.j ≡ c.before.before.before.before.before.before.args.cols = omega arith in
-    (omega arith, rw add-one (c.before.loop-j.invariant.1 ∙ rw (e, c.before.before.before.loop-i.invariant.1)), c.before.loop-j.invariant.2)
+    let e : c.loop-j.j ≡ c.args.cols = omega arith in
+    (omega arith, rw add-one (c.loop-j.invariant.1 ∙ rw (e, c.loop-i.invariant.1)), c.loop-j.invariant.2)
 
 returns : tie.Need-returns invariant-loop-j decreases-loop-j invariant-loop-i decreases-loop-i invariant-loop-used_rows decreases-loop-used_rows
-returns c = let e : c.before.loop-i.i ≡ c.before.before.before.before.args.rows = omega arith in rw e at c.before.loop-i.invariant.1
+returns c = let e : c.loop-i.i ≡ c.args.rows = omega arith in rw e at c.loop-i.invariant.1
 
 pub next_pick_spec : {M : Type 1} → statement M
 next_pick_spec =

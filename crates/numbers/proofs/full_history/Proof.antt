@@ -46,7 +46,7 @@ conditionally-add-to-past-detections-requires :
 unfolding aged
 conditionally-add-to-past-detections-requires c κs =
     let s = c.before.before.before in
-    let e = c.before.before.small-config.ensures in (
+    let e = c.small-config.ensures in (
       record {
         some_points = omega arith;
         points-most = omega arith;

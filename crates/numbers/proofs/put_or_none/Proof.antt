@@ -17,8 +17,8 @@ returns c = search rules
 
 cast-print-decimal : tie.Need-overflow-cast-print-decimal
 cast-print-decimal c =
-    let fits = c.before.ranges.n in
-    rw (to_z-of_z fits, not_negative c.before.args.n (rw (to_z-of_z fits) at c.if1.false)) (tt, record { fits = omega (arith, fits.sfits) })
+    let fits = c.ranges.n in
+    rw (to_z-of_z fits, not_negative c.args.n (rw (to_z-of_z fits) at c.if1.false)) (tt, record { fits = omega (arith, fits.sfits) })
 
 print-decimal-requires : tie.Need-print-decimal-requires
 print-decimal-requires c κs = search rules

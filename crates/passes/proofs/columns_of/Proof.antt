@@ -28,7 +28,7 @@ bounds-at-i : tie.Need-bounds-at-i invariant-loop-i decreases-loop-i
 bounds-at-i c = search rules
 
 bounds-used-at : tie.Need-bounds-used-at invariant-loop-i decreases-loop-i
-bounds-used-at c = c.before.before.before.requires.1 c.before.loop-i.i c.loop-i-test.true
+bounds-used-at c = c.requires.1 c.loop-i.i c.loop-i-test.true
 
 overflow_add-i : tie.Need-overflow_add-i invariant-loop-i decreases-loop-i
 overflow_add-i c = search rules
@@ -41,13 +41,13 @@ loop-i-preserved c =
     let s = c.before.before.before in
     let all : length s.args.list.at-1 ≡ 64 = simp length-map at s.well_formed.0.1.1.0.1.0.1 in (
       search rules,
-      through_next (λ i u. set u i false) s.args.list.at-1 c.before.loop-i.i 0 (replicate 64 true) (omega (arith, s.requires.0)) refl c.before.loop-i.invariant.1,
+      through_next (λ i u. set u i false) s.args.list.at-1 c.loop-i.i 0 (replicate 64 true) (omega (arith, s.requires.0)) refl c.loop-i.invariant.1,
     )
 
 returns : tie.Need-returns invariant-loop-i decreases-loop-i
 returns c =
-    let e : c.before.loop-i.i ≡ c.before.before.before.args.list.count = omega arith in
-    rw e at c.before.loop-i.invariant.1
+    let e : c.loop-i.i ≡ c.args.list.count = omega arith in
+    rw e at c.loop-i.invariant.1
 
 pub columns_of_spec : {M : Type 1} → statement M
 columns_of_spec =

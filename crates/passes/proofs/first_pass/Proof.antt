@@ -12,7 +12,7 @@ match_detections_and_objects-requires c κs = search rules
 
 returns : tie.Need-returns
 unfolding first_pass
-returns c = rw (c.match_detections_and_objects.ensures, c.before.columns_of-used_cols.ensures)
+returns c = rw (c.match_detections_and_objects.ensures, c.columns_of-used_cols.ensures)
 
 pub first_pass_spec : {M : Type 1} → statement M
 first_pass_spec = tie.close (tie.spec columns_of-used_cols-requires match_detections_and_objects-requires returns)

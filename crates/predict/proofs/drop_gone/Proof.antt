@@ -50,11 +50,11 @@ is_gone-requires c κs = search rules
 
 -- the record that the code read
 here : (c : tie.In-loop-i invariant-loop-i decreases-loop-i)
-    → let a = (given c.before).args in get_or a.t2 c.before.loop-i.i blank ≡ get_or a.t2 c.before.loop-i.i zero_object
+    → let a = (given c.before).args in get_or a.t2 c.loop-i.i blank ≡ get_or a.t2 c.loop-i.i zero_object
 here c =
     let s = given c.before in
     let all : length s.args.records ≡ 64 = s.good.1.0.1.0.1 in
-    read s.args.records c.before.loop-i.i (omega arith)
+    read s.args.records c.loop-i.i (omega arith)
 
 answered : (c : tie.After-is_gone invariant-loop-i decreases-loop-i)
     → let l = c.before.before.before in c.is_gone.result ≡ gone (given l).args.config (get_or (given l).args.records l.loop-i.i zero_object)
@@ -70,22 +70,22 @@ loop-i-preserved-then-is_gone : tie.Need-loop-i-preserved-then-is_gone invariant
 loop-i-preserved-then-is_gone c =
     let l = c.before.before.before.before in
     let a = (given l).args in
-    let size = l.before.layout_of-at.result.size in
+    let size = l.layout_of-at.result.size in
     let e = leaves (stays_at a.config a.t2) size a.t2 a.s-1.now l.loop-i.i (ap not (sym (answered c.before) ∙ c.if-is_gone.true)) in
     (search rules, rw (add-one, e) l.loop-i.invariant.1, rw (add-one, e) l.loop-i.invariant.2, rw (add-one, e) l.loop-i.invariant.3)
 
-abbrev size_of : (l : tie.At-loop-i invariant-loop-i decreases-loop-i) → l.before.layout_of-at.result.size ≡ block_size (given l).args.config
-size_of l = ap (λ (r : Layout). r.size) l.before.layout_of-at.ensures
+abbrev size_of : (l : tie.At-loop-i invariant-loop-i decreases-loop-i) → l.layout_of-at.result.size ≡ block_size (given l).args.config
+size_of l = ap (λ (r : Layout). r.size) l.layout_of-at.ensures
 
-whole : (l : tie.At-loop-i invariant-loop-i decreases-loop-i) → (given l).args.n * l.before.layout_of-at.result.size ≤ length (given l).args.s.now
+whole : (l : tie.At-loop-i invariant-loop-i decreases-loop-i) → (given l).args.n * l.layout_of-at.result.size ≤ length (given l).args.s.now
 whole l = by_size (given l).args.n (length (given l).args.s.now) (size_of l) (given l).requires.2
 
 space : (c : tie.In-loop-i invariant-loop-i decreases-loop-i)
-    → let l = c.before in Room l.before.layout_of-at.result.size (given l).args.s.now l.loop-i.s l.loop-i.i l.loop-i.k
+    → let l = c.before in Room l.layout_of-at.result.size (given l).args.s.now l.loop-i.s l.loop-i.i l.loop-i.k
 space c =
     let l = c.before in
     let a = (given l).args in
-    room (stays_at a.config a.t2) l.before.layout_of-at.result.size a.t2 a.s-1.now l.loop-i.i c.loop-i-test.true (whole l) l.loop-i.invariant.1 l.loop-i.invariant.3
+    room (stays_at a.config a.t2) l.layout_of-at.result.size a.t2 a.s-1.now l.loop-i.i c.loop-i-test.true (whole l) l.loop-i.invariant.1 l.loop-i.invariant.3
 
 offset_bounds-kept-k : tie.Need-offset_bounds-kept-k invariant-loop-i decreases-loop-i
 offset_bounds-kept-k c = let h = space c.before.before.before in record { fits = omega arith }
@@ -119,9 +119,9 @@ loop-i-preserved c =
     let t = moved.before.before.before.before.before in
     let l = t.before in
     let a = (given l).args in
-    let size = l.before.layout_of-at.result.size in
+    let size = l.layout_of-at.result.size in
     let p = stays_at a.config a.t2 in
-    let stay = ap not (sym (answered moved.before.before.before) ∙ moved.before.before.if-is_gone.false) in
+    let stay = ap not (sym (answered moved.before.before.before) ∙ moved.if-is_gone.false) in
     let all : length a.t2 ≡ 64 = (given l).well_formed.1.0.1.0.1 in (
       search rules,
       rw (add-one l.loop-i.k, add-one l.loop-i.i, one_more p size a.t2 a.s-1.now l.loop-i.i stay) (ap suc l.loop-i.invariant.1),
@@ -133,7 +133,7 @@ shape_of-s : tie.Need-shape_of-s invariant-loop-i decreases-loop-i
 shape_of-s c =
     let l = c.before in
     let a = (given l).args in
-    let size = l.before.layout_of-at.result.size in
+    let size = l.layout_of-at.result.size in
     let front = le_trans (mul-le-mul_right size l.loop-i.invariant.0) (whole l) in
     rw l.loop-i.invariant.3 (moved_length (stays_at a.config a.t2) size a.t2 a.s-1.now l.loop-i.i front)
 

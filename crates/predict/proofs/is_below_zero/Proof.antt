@@ -14,7 +14,7 @@ returns-in-Absent : tie.Need-returns-in-Absent
 returns-in-Absent c = search rules
 
 returns-in-Present : tie.Need-returns-in-Present
-returns-in-Present c = rw (to_z-of_z (record { sfits = c.known_told-1.given.0.1 }), c.before.counter-1.given.1)
+returns-in-Present c = rw (to_z-of_z (record { sfits = c.known_told-1.given.0.1 }), c.counter-1.given.1)
 
 pub is_below_zero_spec : {M : Type 1} → statement M
 is_below_zero_spec = tie.close (tie.spec enum_told-1 enum_known-counter returns-in-Absent returns-in-Present)

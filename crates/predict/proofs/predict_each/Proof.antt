@@ -53,13 +53,13 @@ here c =
     let same = records_long a.config a.t2 a.s-1.now l.loop-i.i (omega arith) l.loop-i.invariant.1 in
     read l.loop-i.records l.loop-i.i (omega arith) ∙ record_unmoved a.config a.t2 a.s-1.now l.loop-i.i l.loop-i.invariant.1
 
-abbrev size_of : (l : tie.At-loop-i invariant-loop-i decreases-loop-i) → l.before.layout_of-at.result.size ≡ block_size (given l).args.config
-size_of l = ap (λ (r : Layout). r.size) l.before.layout_of-at.ensures
+abbrev size_of : (l : tie.At-loop-i invariant-loop-i decreases-loop-i) → l.layout_of-at.result.size ≡ block_size (given l).args.config
+size_of l = ap (λ (r : Layout). r.size) l.layout_of-at.ensures
 
 -- its block lies in the floats
 inside : (c : tie.In-loop-i invariant-loop-i decreases-loop-i)
     → let l = c.before in
-    let size = l.before.layout_of-at.result.size in
+    let size = l.layout_of-at.result.size in
     (l.loop-i.i * size + size ≤ length (given l).args.s.now) × (length l.loop-i.s ≡ length (given l).args.s.now)
 inside c =
     let l = c.before in
@@ -91,7 +91,7 @@ predict-next-requires c κs =
     let t = c.before.before in
     let l = t.before in
     let p = (given l).requires in
-    let size = l.before.layout_of-at.result.size in
+    let size = l.layout_of-at.result.size in
     let start = l.loop-i.i * size in
     let h = inside t in
     let part : start + size - start ≡ size = omega arith in (
@@ -128,12 +128,12 @@ loop-i-preserved c =
 shape_of-s : tie.Need-shape_of-s invariant-loop-i decreases-loop-i
 shape_of-s c =
     let a = (given c.before).args in
-    floats_long a.config a.t2 a.s-1.now c.before.loop-i.i c.before.loop-i.invariant.0 (given c.before).pre.2 c.before.loop-i.invariant.2
+    floats_long a.config a.t2 a.s-1.now c.loop-i.i c.loop-i.invariant.0 (given c.before).pre.2 c.loop-i.invariant.2
 
 returns : tie.Need-returns invariant-loop-i decreases-loop-i
 returns c =
-    let e : c.before.loop-i.i ≡ (given c.before).args.n = omega arith in
-    (rw e at c.before.loop-i.invariant.1, rw e at c.before.loop-i.invariant.2)
+    let e : c.loop-i.i ≡ (given c.before).args.n = omega arith in
+    (rw e at c.loop-i.invariant.1, rw e at c.loop-i.invariant.2)
 
 pub predict_each_spec : {M : Type 1} → statement M
 predict_each_spec =

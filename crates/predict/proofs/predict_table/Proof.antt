@@ -75,8 +75,8 @@ returns c =
         alive.sort_out-alive.ensures ∙ places Alive,
         initializing.sort_out-initializing.ensures ∙ places Initializing,
         dead.sort_out-dead.ensures ∙ places Dead,
-        c.before.before.no_numbers-none.ensures,
-        c.before.no_candidates-candidates.ensures,
+        c.no_numbers-none.ensures,
+        c.no_candidates-candidates.ensures,
       ),
       each.predict_each-predicted.ensures.1 ∙ floats-predicted a.t.config-1 a.t.counts-1.records-1 a.t.records-1 a.s-1.now room e.0 e.1,
     )

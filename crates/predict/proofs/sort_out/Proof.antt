@@ -44,17 +44,17 @@ stands_in-requires c κs = search rules
 -- what the call says of the record that the code read
 answered : (c : tie.After-stands_in invariant-loop-i decreases-loop-i)
     → let s = c.before.before.before.before in
-    c.stands_in.result ≡ stands s.args.config s.args.sort s.args.records c.before.before.before.loop-i.i
+    c.stands_in.result ≡ stands s.args.config s.args.sort s.args.records c.loop-i.i
 answered c =
     let s = c.before.before.before.before in
     let all : length s.args.records ≡ 64 = s.well_formed.1.1.0.1.0.1 in
-    c.stands_in.ensures ∙ ap (belongs s.args.config s.args.sort) (read s.args.records c.before.before.before.loop-i.i (omega arith))
+    c.stands_in.ensures ∙ ap (belongs s.args.config s.args.sort) (read s.args.records c.loop-i.i (omega arith))
 
 -- there is room for one place more
-room : (c : tie.Then-stands_in invariant-loop-i decreases-loop-i) → c.before.before.before.before.loop-i.count ≤ 63
+room : (c : tie.Then-stands_in invariant-loop-i decreases-loop-i) → c.loop-i.count ≤ 63
 room c =
-    let a = c.before.before.before.before.before.args in
-    omega (arith, at_most (stands a.config a.sort a.t3) c.before.before.before.before.loop-i.i)
+    let a = c.args in
+    omega (arith, at_most (stands a.config a.sort a.t3) c.loop-i.i)
 
 offset_bounds-at-count : tie.Need-offset_bounds-at-count invariant-loop-i decreases-loop-i
 offset_bounds-at-count c = record { fits = omega (arith, room c) }
@@ -73,8 +73,8 @@ loop-i-smaller c = search rules
 
 loop-i-preserved : tie.Need-loop-i-preserved invariant-loop-i decreases-loop-i
 loop-i-preserved c =
-    let a = c.before.before.before.before.before.args in
-    let loop = c.before.before.before.before.loop-i in
+    let a = c.args in
+    let loop = c.loop-i in
     let p = stands a.config a.sort a.t3 in
     let told = sym (answered c.before) in
     ⊎_elim
@@ -84,8 +84,8 @@ loop-i-preserved c =
 
 returns : tie.Need-returns invariant-loop-i decreases-loop-i
 returns c =
-    let e : c.before.loop-i.i ≡ c.before.before.args.n = omega arith in
-    rw (c.before.loop-i.invariant.1.0, c.before.loop-i.invariant.1.1, e)
+    let e : c.loop-i.i ≡ c.args.n = omega arith in
+    rw (c.loop-i.invariant.1.0, c.loop-i.invariant.1.1, e)
 
 pub sort_out_spec : {M : Type 1} → statement M
 sort_out_spec =

@@ -25,7 +25,7 @@ enum_told-in-Dead c = search rules
 returns-in-Alive : tie.Need-returns-in-Alive
 returns-in-Alive c =
     let told = c.before.before in
-    rw (c.both.ensures, to_z-of_z (record { sfits = told.struct_told-in-Alive-1.given.1.0.1 }), told.before.before.enum_told-1.given.1)
+    rw (c.both.ensures, to_z-of_z (record { sfits = told.struct_told-in-Alive-1.given.1.0.1 }), told.enum_told-1.given.1)
 
 returns-in-Initializing : tie.Need-returns-in-Initializing
 returns-in-Initializing c = rw c.enum_told-in-Initializing-1.given.1
@@ -35,8 +35,8 @@ returns-in-Dead c =
     let dead = c.before.before in
     rw (
       dead.both-dead.ensures,
-      to_z-of_z (record { sfits = dead.before.before.struct_told-1.given.1.0.1 }),
-      dead.before.has_maximum.ensures,
+      to_z-of_z (record { sfits = dead.struct_told-1.given.1.0.1 }),
+      dead.has_maximum.ensures,
       c.enum_told-in-Dead-1.given.1,
     )
 

@@ -10,7 +10,7 @@ slice-relend-prefix-predict : tie.Need-slice-relend-prefix-predict
 slice-relend-prefix-predict c = search rules
 
 slice-aggregate-predict : tie.Need-slice-aggregate-predict
-slice-aggregate-predict c = sym (length-take-le c.before.before.before.args.n c.before.before.before.args.storage.now (omega arith))
+slice-aggregate-predict c = sym (length-take-le c.args.n c.args.storage.now (omega arith))
 
 predict-requires : tie.Need-predict-requires
 predict-requires c κs = search rules

@@ -26,7 +26,7 @@ returns : tie.Need-returns
 returns c =
     let r = c.before.before in
     let s = given r in
-    places-merges s.args.t s.args.distances.now s.pre.0 r.candidates_met-rows.ensures c.before.match_detections_and_objects-picks.ensures c.places_of.ensures
+    places-merges s.args.t s.args.distances.now s.pre.0 r.candidates_met-rows.ensures c.match_detections_and_objects-picks.ensures c.places_of.ensures
 
 pub decide_spec : {M : Type 1} → statement M
 decide_spec = tie.close (tie.spec candidates_met-rows-requires match_detections_and_objects-picks-requires places_of-requires returns)

@@ -17,15 +17,15 @@ is_whole-requires c κs = search rules
 returns-then-not-is_whole : tie.Need-returns-then-not-is_whole
 unfolding current_answer first_due
 returns-then-not-is_whole c =
-    let e : whole_table c.before.before.before.before.args.t ≡ false = sym c.before.is_whole.ensures ∙ not-true _ c.if-not-is_whole.true-raw in
+    let e : whole_table c.args.t ≡ false = sym c.is_whole.ensures ∙ not-true _ c.if-not-is_whole.true-raw in
     rw e
 
-whole : (c : tie.Else-not-is_whole) → whole_table c.before.before.before.before.args.t ≡ true
-whole c = sym c.before.is_whole.ensures ∙ not-false _ c.if-not-is_whole.false-raw
+whole : (c : tie.Else-not-is_whole) → whole_table c.args.t ≡ true
+whole c = sym c.is_whole.ensures ∙ not-false _ c.if-not-is_whole.false-raw
 
 active_count-active-requires : tie.Need-active_count-active-requires
 active_count-active-requires c κs =
-    let f = whole_facts c.before.before.before.before.args.t (whole c) in
+    let f = whole_facts c.args.t (whole c) in
     omega (arith, f.counts-1.records-1, f.settings.capacity.1)
 
 returns : tie.Need-returns

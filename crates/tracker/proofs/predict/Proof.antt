@@ -16,13 +16,13 @@ predict_refusal-due-requires c κs = search rules
 returns-then-due-ne0 : tie.Need-returns-then-due-ne0
 unfolding predict_answer predict_storage
 returns-then-due-ne0 c =
-    let s = c.before.before.before.args in
-    let call = c.before.predict_refusal-due in
+    let s = c.args in
+    let call = c.predict_refusal-due in
     let e = ne_eqb (first_due (predict_checks s.t (length s.storage-1.now))) 0 (λ z. omega (arith, c.if-due-ne0.true, call.ensures, z)) in
     (rw (call.ensures, e), rw e)
 
-none-due : (c : tie.Else-due-ne0) → let a = c.before.before.before.args in first_due (predict_checks a.t (length a.storage-1.now)) ≡ 0
-none-due c = omega (arith, c.before.predict_refusal-due.ensures, c.if-due-ne0.false)
+none-due : (c : tie.Else-due-ne0) → let a = c.args in first_due (predict_checks a.t (length a.storage-1.now)) ≡ 0
+none-due c = omega (arith, c.predict_refusal-due.ensures, c.if-due-ne0.false)
 
 predict_table-stepped-requires : tie.Need-predict_table-stepped-requires
 predict_table-stepped-requires c κs =
@@ -36,10 +36,10 @@ shape_of-storage c = search rules
 returns : tie.Need-returns
 unfolding predict_answer predict_storage
 returns c =
-    let call = c.before.before.predict_table-stepped in
+    let call = c.predict_table-stepped in
     let none = c.before.before.before.before in
     let e = none-due none in
-    (rw (none.before.predict_refusal-due.ensures, e, call.ensures.0), rw e call.ensures.1)
+    (rw (none.predict_refusal-due.ensures, e, call.ensures.0), rw e call.ensures.1)
 
 pub predict_spec : {M : Type 1} → statement M
 predict_spec = tie.close (tie.spec predict_refusal-due-requires returns-then-due-ne0 predict_table-stepped-requires shape_of-storage returns)

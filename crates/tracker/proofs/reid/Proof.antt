@@ -25,7 +25,7 @@ returns-then-refusal-ne0 : tie.Need-returns-then-refusal-ne0
 unfolding reid_answer reid_storage reid_active
 returns-then-refusal-ne0 c =
     let a = (given c.before).args in
-    let call = c.before.reid_refusal-refusal in
+    let call = c.reid_refusal-refusal in
     let e = ne_eqb (first_due (reid_checks a.t (length a.storage-1.now) (length a.distances.now) (length a.active-1.now))) 0 (λ z. omega (arith, c.if-refusal-ne0.true, call.ensures, z)) in
     (rw (call.ensures, e), (rw e, rw e))
 
@@ -35,7 +35,7 @@ asked : (c : tie.Else-refusal-ne0) → let a = (given c.before).args in
 asked c =
     let b = given c.before in
     let all : length b.args.t.records-1 ≡ 64 = simp length-map at b.good.0.1.1.0.1.0.1 in
-    reid_ready b.args.t (length b.args.storage.now) (length b.args.distances.now) (length b.args.active.now) all (omega (arith, c.before.reid_refusal-refusal.ensures, c.if-refusal-ne0.false))
+    reid_ready b.args.t (length b.args.storage.now) (length b.args.distances.now) (length b.args.active.now) all (omega (arith, c.reid_refusal-refusal.ensures, c.if-refusal-ne0.false))
 
 reid_table-merged-requires : tie.Need-reid_table-merged-requires
 reid_table-merged-requires c κs = (asked c.before).0
@@ -60,7 +60,7 @@ returns c =
     let test = core.before.before in
     let a = (given test.before).args in
     let r =
-    reid_answered a.t a.storage-1.now a.distances.now a.active-1.now test.before.reid_refusal-refusal.ensures test.if-refusal-ne0.false
+    reid_answered a.t a.storage-1.now a.distances.now a.active-1.now test.reid_refusal-refusal.ensures test.if-refusal-ne0.false
     core.reid_table-merged.ensures.0 core.reid_table-merged.ensures.1 listed.list_active-count.ensures.0 listed.list_active-count.ensures.1 in
     (r.0, (r.1, r.2))
 

@@ -17,17 +17,17 @@ is_whole-requires c κs = search rules
 returns-then-not-is_whole : tie.Need-returns-then-not-is_whole
 unfolding total_answer first_due
 returns-then-not-is_whole c =
-    let e : whole_table c.before.before.before.args.t ≡ false = sym c.before.is_whole.ensures ∙ not-true _ c.if-not-is_whole.true-raw in
+    let e : whole_table c.args.t ≡ false = sym c.is_whole.ensures ∙ not-true _ c.if-not-is_whole.true-raw in
     rw e
 
-whole : (c : tie.Else-not-is_whole) → whole_table c.before.before.before.args.t ≡ true
-whole c = sym c.before.is_whole.ensures ∙ not-false _ c.if-not-is_whole.false-raw
+whole : (c : tie.Else-not-is_whole) → whole_table c.args.t ≡ true
+whole c = sym c.is_whole.ensures ∙ not-false _ c.if-not-is_whole.false-raw
 
 overflow_sub-issued : tie.Need-overflow_sub-issued
-overflow_sub-issued c = omega (arith, (whole_facts c.before.before.before.before.args.t (whole c.before)).counts-1)
+overflow_sub-issued c = omega (arith, (whole_facts c.args.t (whole c.before)).counts-1)
 
 overflow_cast-issued : tie.Need-overflow_cast-issued
-overflow_cast-issued c = record { fits = omega (arith, (whole_facts c.before.before.before.before.args.t (whole c.before)).counts-1) }
+overflow_cast-issued c = record { fits = omega (arith, (whole_facts c.args.t (whole c.before)).counts-1) }
 
 returns : tie.Need-returns
 unfolding total_answer first_due

@@ -19,11 +19,11 @@ lends l = let p = (given l).requires in record { layout = l.layout_of-at.ensures
 abbrev laid : tie.After-part_of-marks → tie.After-layout_of-at
 laid p = p.before.before.before.before
 
-parted : (p : tie.After-part_of-marks) → Parted (lends (laid p)) p.before.part_of-own.result.now p.part_of-marks.result.now
-parted p = record { own = p.before.part_of-own.ensures; marks = p.part_of-marks.ensures }
+parted : (p : tie.After-part_of-marks) → Parted (lends (laid p)) p.part_of-own.result.now p.part_of-marks.result.now
+parted p = record { own = p.part_of-own.ensures; marks = p.part_of-marks.ensures }
 
 layout_of-at-requires : tie.Need-layout_of-at-requires
-layout_of-at-requires c κs = c.before.before.before.before.requires.0.sizes
+layout_of-at-requires c κs = c.requires.0.sizes
 
 overflow_mul-start : tie.Need-overflow_mul-start
 overflow_mul-start c = record { fits = omega (arith, block_inside (lends c.before), (given c.before).well_formed) }
@@ -67,7 +67,7 @@ returns c =
     let p = called.before.before.before in
     let a = (given (laid p)).args in (
       by_detection (parted p) (λ x. changed_by_hit a.config x a.period a.distance a.next_id a.o) called.«hit».ensures.0,
-      block_back (parted p) (λ x. block_hit a.config x a.o.past_count) c.before.s-1.given.0 called.«hit».ensures.1,
+      block_back (parted p) (λ x. block_hit a.config x a.o.past_count) c.s-1.given.0 called.«hit».ensures.1,
     )
 
 pub hit_at_spec : {M : Type 1} → statement M

@@ -48,7 +48,7 @@ bounds-cols-i c = search rules
 
 -- the pick's record, and its entry in the matrix
 in_table : (t : tie.In-loop-i invariant-loop-i decreases-loop-i)
-    → let b = given t.before.before.before in get_or b.args.picks.cols-1 t.before.before.loop-i.i 0 < 64
+    → let b = given t.before.before.before in get_or b.args.picks.cols-1 t.loop-i.i 0 < 64
 in_table t =
     let l = t.before.before in
     let p = (given l.before).pre in

@@ -7,7 +7,7 @@ overflow_add-counts : tie.Need-overflow_add-counts
 overflow_add-counts c = search rules
 
 returns-then-took : tie.Need-returns-then-took
-returns-then-took c = rw c.before.if-took.true
+returns-then-took c = rw c.if-took.true
 
 returns-else-took : tie.Need-returns-else-took
 returns-else-took c = rw c.if-took.false

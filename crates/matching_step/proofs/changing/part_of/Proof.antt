@@ -24,7 +24,7 @@ slice_bounds-result-end : tie.Need-slice_bounds-result-end
 slice_bounds-result-end c = search rules
 
 returns : tie.Need-returns
-returns c = let a = c.before.args in part_same a.s.now (a.i * a.size) a.size
+returns c = let a = c.args in part_same a.s.now (a.i * a.size) a.size
 
 pub part_of_spec : {M : Type 1} → statement M
 part_of_spec =

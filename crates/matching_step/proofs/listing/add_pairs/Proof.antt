@@ -38,16 +38,16 @@ given l = l.before.before.before
 
 -- the pick names a record and an entry of the matrix
 chosen : (c : tie.In-loop-i invariant-loop-i decreases-loop-i)
-    → let i = c.before.before.loop-i.i in
+    → let i = c.loop-i.i in
     let a = (given c.before.before).args in
     let d = get_or a.picks.rows-1 i 0 in
     let k = get_or a.picks.cols-1 i 0 in
     (k < 64) × (d * a.n + k < length a.distances.now) × (length a.distances.now ≤ 2048)
 chosen c =
     let g = given c.before.before in
-    let col = g.pre.5 c.before.before.loop-i.i c.loop-i-test.true in (
+    let col = g.pre.5 c.loop-i.i c.loop-i-test.true in (
       omega arith,
-      cell_below (g.pre.4 c.before.before.loop-i.i c.loop-i-test.true) col (omega arith),
+      cell_below (g.pre.4 c.loop-i.i c.loop-i-test.true) col (omega arith),
       omega (arith, mul-le-mul {n₁ = g.args.detections} {m₁ = g.args.n} {n₂ = 32} {m₂ = 64} g.pre.1 g.pre.2),
     )
 

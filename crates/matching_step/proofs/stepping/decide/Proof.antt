@@ -37,7 +37,7 @@ left_over-left-requires : tie.Need-left_over-left-requires
 left_over-left-requires c κs =
     let b = given c.before.before in
     let p = b.pre in
-    let one = c.before.first_pass-first.ensures in (
+    let one = c.first_pass-first.ensures in (
       p.few,
       omega (arith, p.few, first-few b.args.t b.args.detections (lent b) one),
       omega (arith, p.few, second-few b.args.t b.args.detections (lent b) one c.second_pass-second.ensures),
@@ -47,7 +47,7 @@ returns : tie.Need-returns
 returns c =
     let second = c.before in
     let b = given second.before.before in
-    decided b.args.t b.args.detections (lent b) second.before.first_pass-first.ensures second.second_pass-second.ensures c.left_over-left.ensures
+    decided b.args.t b.args.detections (lent b) second.first_pass-first.ensures second.second_pass-second.ensures c.left_over-left.ensures
 
 pub decide_spec : {M : Type 1} → statement M
 decide_spec =

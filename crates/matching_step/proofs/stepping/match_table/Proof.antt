@@ -27,10 +27,10 @@ returns-then-given-ne0 : tie.Need-returns-then-given-ne0
 returns-then-given-ne0 c =
     let b = start c.before.before in
     matched-given b.args.t b.args.s.now b.args.detections (lent b) b.args.places
-    c.before.before.given_refusal-given.ensures c.before.if-given-ne0.true c.refused.ensures
+    c.given_refusal-given.ensures c.if-given-ne0.true c.refused.ensures
 
 none-given : (c : tie.Else-given-ne0) → let b = start c.before in given_due b.args.t b.args.s.now b.args.detections (lent b) b.args.places ≡ 0
-none-given c = sym c.before.given_refusal-given.ensures ∙ c.if-given-ne0.false
+none-given c = sym c.given_refusal-given.ensures ∙ c.if-given-ne0.false
 
 decide-decided-requires : tie.Need-decide-decided-requires
 decide-decided-requires c κs =
@@ -56,7 +56,7 @@ refused-requires-then-refusal-ne0 c κs = search rules
 returns-then-refusal-ne0 : tie.Need-returns-then-refusal-ne0
 returns-then-refusal-ne0 c =
     let call = c.before.before in
-    matched_decided (came call.before) call.decided_refusal-refusal.ensures c.before.if-refusal-ne0.true c.refused-then-refusal-ne0.ensures
+    matched_decided (came call.before) call.decided_refusal-refusal.ensures c.if-refusal-ne0.true c.refused-then-refusal-ne0.ensures
 
 -- ---- no refusal is due
 
@@ -68,7 +68,7 @@ match_step-table-requires c κs =
     let none = c.before.before.before in
     let d = none.before.before in
     let b = start (given d).before in
-    startable (came d) none.before.decided_refusal-refusal.ensures none.if-refusal-ne0.false (simp length-map at b.good.0.1.1.0.1.0.1)
+    startable (came d) none.decided_refusal-refusal.ensures none.if-refusal-ne0.false (simp length-map at b.good.0.1.1.0.1.0.1)
 
 overflow_add-count : tie.Need-overflow_add-count
 overflow_add-count c = omega (arith, (pairable (came c.before.before.before.before.before.before.before.before.before)).0)
@@ -81,7 +81,7 @@ returns c =
     let call = c.before.before.before in
     let pairs = call.before.before in
     let none = pairs.before.before in
-    matched-accepted (came none.before.before) none.before.decided_refusal-refusal.ensures none.if-refusal-ne0.false
+    matched-accepted (came none.before.before) none.decided_refusal-refusal.ensures none.if-refusal-ne0.false
     pairs.pairs_of-pairs.ensures call.match_step-table.ensures.0 call.match_step-table.ensures.1
 
 pub match_table_spec : {M : Type 1} → statement M

@@ -33,7 +33,7 @@ loop-holds : tie.Need-loop-init invariant-loop decreases-loop
 loop-holds c = search rules
 
 mul-measured : tie.Need-overflow-mul-measured invariant-loop decreases-loop
-mul-measured c = let h = few (le_of_lt c.before.loop-test.true) c.before.before.before.if1.false in record { fits = omega arith }
+mul-measured c = let h = few (le_of_lt c.loop-test.true) c.if1.false in record { fits = omega arith }
 
 mul-measured-2 : tie.Need-overflow-mul-measured-2 invariant-loop decreases-loop
 mul-measured-2 c = search rules
@@ -42,7 +42,7 @@ array-read-measured : tie.Need-array-read-measured invariant-loop decreases-loop
 array-read-measured c = search rules
 
 measured-requires : tie.Need-measured-requires invariant-loop decreases-loop
-measured-requires c κs = few (le_of_lt c.before.before.loop-test.true) c.before.before.before.before.if1.false
+measured-requires c κs = few (le_of_lt c.loop-test.true) c.if1.false
 
 add-d : tie.Need-overflow-add-d invariant-loop decreases-loop
 add-d c = search rules
@@ -51,7 +51,7 @@ loop-less : tie.Need-loop-smaller invariant-loop decreases-loop
 loop-less c = search rules
 
 loop-again : tie.Need-loop-preserved invariant-loop decreases-loop
-loop-again c = ⊎_elim (λ w. ap length w.3 ∙ w.2.ok.1.0.1) (λ w. ap length w.1 ∙ c.before.before.loop.invariant) c.if2.branch
+loop-again c = ⊎_elim (λ w. ap length w.3 ∙ w.2.ok.1.0.1) (λ w. ap length w.1 ∙ c.loop.invariant) c.if2.branch
 
 same-length-2 : tie.Need-same-length-2 invariant-loop decreases-loop
 same-length-2 c = search rules
@@ -78,10 +78,10 @@ slice-aggregate-match-detections-3 : tie.Need-slice-aggregate-match-detections-3
 slice-aggregate-match-detections-3 c = let h = array-share-prefix-has-scores c.before in rw length-take-le
 
 mul-distances : tie.Need-overflow-mul-distances invariant-loop decreases-loop
-mul-distances c = let h = few c.before.before.before.before.if3.false c.before.before.before.before.before.before.before.if1.false in record { fits = omega arith }
+mul-distances c = let h = few c.if3.false c.if1.false in record { fits = omega arith }
 
 array-share-prefix-distances : tie.Need-array-share-prefix-distances invariant-loop decreases-loop
-array-share-prefix-distances c = omega (arith, few c.before.before.before.before.if3.false c.before.before.before.before.before.before.before.if1.false, c.before.before.before.before.before.before.loop.invariant)
+array-share-prefix-distances c = omega (arith, few c.if3.false c.if1.false, c.loop.invariant)
 
 slice-aggregate-match-detections-4 : tie.Need-slice-aggregate-match-detections-4 invariant-loop decreases-loop
 slice-aggregate-match-detections-4 c = let h = array-share-prefix-distances c.before in rw length-take-le
@@ -102,7 +102,7 @@ reid-requires : tie.Need-reid-requires invariant-loop decreases-loop
 reid-requires c κs = search rules
 
 same-length-3 : tie.Need-same-length-3 invariant-loop decreases-loop
-same-length-3 c = c.before.before.before.before.reid.auto.1.0 ∙ c.before.before.before.before.before.before.before.before.before.before.before.before.match-detections.auto.1.0 ∙ c.before.before.before.before.before.before.before.before.before.before.before.before.before.before.before.before.before.before.before.before.before.before.before.before.before.before.before.predict.auto.1.0
+same-length-3 c = c.reid.auto.1.0 ∙ c.match-detections.auto.1.0 ∙ c.predict.auto.1.0
 
 returns-3 : tie.Need-returns-3 invariant-loop decreases-loop
 returns-3 c = search rules

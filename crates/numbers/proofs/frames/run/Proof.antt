@@ -42,7 +42,7 @@ add-n : tie.Need-overflow-add-n invariant-loop decreases-loop
 add-n c = search rules
 
 array-write-fish-2 : tie.Need-array-write-fish-2 invariant-loop decreases-loop
-array-write-fish-2 c = ⊎_elim (λ w. omega arith) (λ w. omega arith) c.before.before.if2.branch
+array-write-fish-2 c = ⊎_elim (λ w. omega arith) (λ w. omega arith) c.if2.branch
 
 mul-fish-2 : tie.Need-overflow-mul-fish-2 invariant-loop decreases-loop
 mul-fish-2 c = let h = array-write-fish-2 c in record { fits = omega arith }
@@ -63,7 +63,7 @@ loop-less : tie.Need-loop-smaller invariant-loop decreases-loop
 loop-less c = search rules
 
 loop-again : tie.Need-loop-preserved invariant-loop decreases-loop
-loop-again c = ⊎_elim (λ w. ap length w.7 ∙ w.5.kept.1.0 ∙ c.before.before.loop.invariant) (λ w. ap length w.1 ∙ c.before.before.loop.invariant) c.if1.branch
+loop-again c = ⊎_elim (λ w. ap length w.7 ∙ w.5.kept.1.0 ∙ c.loop.invariant) (λ w. ap length w.1 ∙ c.loop.invariant) c.if1.branch
 
 total-object-count-requires : tie.Need-total-object-count-requires invariant-loop decreases-loop
 total-object-count-requires c κs = search rules

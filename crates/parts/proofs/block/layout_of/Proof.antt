@@ -6,23 +6,23 @@ use Rattle.parts.proofs.block.layout_of.Statement.{statement}
 use Rattle.parts.proofs.block.layout_of.Tie as tie
 
 overflow_mul-coords : tie.Need-overflow_mul-coords
-overflow_mul-coords c = record { fits = omega (arith, coords-most c.before.args.config c.before.requires) }
+overflow_mul-coords c = record { fits = omega (arith, coords-most c.args.config c.requires) }
 
 overflow_add-width : tie.Need-overflow_add-width
-overflow_add-width c = record { fits = omega (arith, width-most c.before.before.args.config c.before.before.requires) }
+overflow_add-width c = record { fits = omega (arith, width-most c.args.config c.requires) }
 
 overflow_mul-last_at : tie.Need-overflow_mul-last_at
-overflow_mul-last_at c = record { fits = omega (arith, coords-most c.before.before.args.config c.before.before.requires) }
+overflow_mul-last_at c = record { fits = omega (arith, coords-most c.args.config c.requires) }
 
 overflow_add-past_at : tie.Need-overflow_add-past_at
-overflow_add-past_at c = record { fits = omega (arith, coords-most c.before.before.args.config c.before.before.requires, width-most c.before.before.args.config c.before.before.requires) }
+overflow_add-past_at c = record { fits = omega (arith, coords-most c.args.config c.requires, width-most c.args.config c.requires) }
 
 overflow_mul-result : tie.Need-overflow_mul-result
-overflow_mul-result c = record { fits = omega (arith, history-most c.before.before.before.args.config c.before.before.before.requires) }
+overflow_mul-result c = record { fits = omega (arith, history-most c.args.config c.requires) }
 
 overflow_add-result : tie.Need-overflow_add-result
 overflow_add-result c =
-    record { fits = omega (arith, coords-most c.before.before.before.args.config c.before.before.before.requires, width-most c.before.before.before.args.config c.before.before.before.requires, history-most c.before.before.before.args.config c.before.before.before.requires) }
+    record { fits = omega (arith, coords-most c.args.config c.requires, width-most c.args.config c.requires, history-most c.args.config c.requires) }
 
 returns : tie.Need-returns
 returns c = search rules

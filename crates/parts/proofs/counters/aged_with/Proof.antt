@@ -10,10 +10,10 @@ overflow_add-result : tie.Need-overflow_add-result
 overflow_add-result c = search rules
 
 fallen-requires : tie.Need-fallen-requires
-fallen-requires c κs = rw (hit_kept c.before.before.requires) (omega (arith, c.before.before.requires.hit_counter))
+fallen-requires c κs = rw (hit_kept c.requires) (omega (arith, c.requires.hit_counter))
 
 returns : tie.Need-returns
-returns c = rw (to_z-of_z (record { sfits = c.fallen.type_inv }), c.fallen.ensures, hit_kept c.before.before.before.requires)
+returns c = rw (to_z-of_z (record { sfits = c.fallen.type_inv }), c.fallen.ensures, hit_kept c.requires)
 
 pub aged_with_spec : {M : Type 1} → statement M
 aged_with_spec = tie.close (tie.spec overflow_add-result fallen-requires returns)

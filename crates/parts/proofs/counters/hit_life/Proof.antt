@@ -15,8 +15,8 @@ doubled-requires c κs = search rules
 
 sum-requires : tie.Need-sum-requires
 sum-requires c κs =
-    rw (hit_kept c.before.before.requires.0, to_z-of_z (record { sfits = c.before.doubled.type_inv }), c.before.doubled.ensures)
-    (omega (arith, c.before.before.requires.0.hit_counter), omega (arith, c.before.before.requires.1))
+    rw (hit_kept c.requires.0, to_z-of_z (record { sfits = c.doubled.type_inv }), c.doubled.ensures)
+    (omega (arith, c.requires.0.hit_counter), omega (arith, c.requires.1))
 
 smaller_of-counter-requires : tie.Need-smaller_of-counter-requires
 smaller_of-counter-requires c κs = search rules
@@ -30,12 +30,12 @@ counter c =
     rw (
       to_z-of_z (record { sfits = c.smaller_of-counter.type_inv }),
       c.smaller_of-counter.ensures,
-      to_z-of_z (record { sfits = c.before.sum.type_inv }),
+      to_z-of_z (record { sfits = c.sum.type_inv }),
       to_z-of_z s.ranges.hit_counter_max,
-      c.before.sum.ensures,
+      c.sum.ensures,
       hit_kept s.requires.0,
-      to_z-of_z (record { sfits = c.before.before.before.doubled.type_inv }),
-      c.before.before.before.doubled.ensures,
+      to_z-of_z (record { sfits = c.doubled.type_inv }),
+      c.doubled.ensures,
     )
 
 both-requires : tie.Need-both-requires
@@ -44,14 +44,14 @@ both-requires c κs = search rules
 due : (c : tie.After-both) →
     let s = c.before.before.before.before.before in
     c.both.result ≡ promotes s.args.period s.args.hit_counter_max s.args.delay s.args.l
-due c = c.both.ensures ∙ rw (to_z-of_z c.before.before.before.before.before.ranges.delay, counter c.before)
+due c = c.both.ensures ∙ rw (to_z-of_z c.ranges.delay, counter c.before)
 
 cleared-requires : tie.Need-cleared-requires
 cleared-requires c κs = search rules
 
 returns-then-both : tie.Need-returns-then-both
 unfolding life_hit
-returns-then-both c = rw (counter c.before.before.before, c.cleared.ensures, sym (due c.before.before) ∙ c.before.if-both.true)
+returns-then-both c = rw (counter c.before.before.before, c.cleared.ensures, sym (due c.before.before) ∙ c.if-both.true)
 
 returns : tie.Need-returns
 unfolding life_hit

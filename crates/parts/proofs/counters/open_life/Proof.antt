@@ -24,8 +24,8 @@ is_zero-requires c κs = search rules
 kept : (c : tie.Start) → to_z w32 c.args.period ≡ pos c.args.period
 kept c = to_z_pos w32 (omega arith)
 
-at_once : (c : tie.After-is_zero) → is_zero c.before.args.delay ≡ c.is_zero.result
-at_once c = sym (rw (to_z-of_z c.before.ranges.delay) at c.is_zero.ensures)
+at_once : (c : tie.After-is_zero) → is_zero c.args.delay ≡ c.is_zero.result
+at_once c = sym (rw (to_z-of_z c.ranges.delay) at c.is_zero.ensures)
 
 -- a new life with this counter
 abbrev opened : Bool → PermanentId → ℤ → Life
@@ -33,7 +33,7 @@ opened b id z = record { age = 0; hit_counter = z; reid_hit_counter = Absent; is
 
 returns-then-is_zero : tie.Need-returns-then-is_zero
 unfolding life_opened
-returns-then-is_zero c = rw (at_once c.before ∙ c.if-is_zero.true) (ap (opened false (Issued c.before.before.args.next_id)) (kept c.before.before))
+returns-then-is_zero c = rw (at_once c.before ∙ c.if-is_zero.true) (ap (opened false (Issued c.args.next_id)) (kept c.before.before))
 
 returns : tie.Need-returns
 unfolding life_opened

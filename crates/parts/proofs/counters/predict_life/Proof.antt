@@ -23,12 +23,12 @@ returns-in_default : tie.Need-returns-in_default
 unfolding life_predicted
 returns-in_default c =
     let s = c.before.before.before.before.before in
-    rw (c.aged_with.ensures, c.before.started.ensures, hit_kept s.requires, c.before.before.before.enum_told-1.given.1)
+    rw (c.aged_with.ensures, c.started.ensures, hit_kept s.requires, c.enum_told-1.given.1)
 
 fallen-requires : tie.Need-fallen-requires
 fallen-requires c κs =
     rw (to_z-of_z (record { sfits = c.known_told-1.given.0.1 }))
-    (omega (arith, rw c.before.counter-1.given.1 at c.before.before.before.requires.reid_hit_counter))
+    (omega (arith, rw c.counter-1.given.1 at c.requires.reid_hit_counter))
 
 aged_with-requires-2 : tie.Need-aged_with-requires-2
 aged_with-requires-2 c κs = search rules
@@ -39,10 +39,10 @@ returns c =
     let told = c.before.before in
     rw (
       c.aged_with-2.ensures,
-      to_z-of_z (record { sfits = c.before.fallen.type_inv }),
-      c.before.fallen.ensures,
+      to_z-of_z (record { sfits = c.fallen.type_inv }),
+      c.fallen.ensures,
       to_z-of_z (record { sfits = told.known_told-1.given.0.1 }),
-      told.before.counter-1.given.1,
+      told.counter-1.given.1,
     )
 
 pub predict_life_spec : {M : Type 1} → statement M

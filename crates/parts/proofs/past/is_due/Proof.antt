@@ -17,25 +17,25 @@ absent : (z : ℤ) (age most : ℕ) → lt_z z (pos 0) ≡ true → false ≡ is
 absent (pos n) age most h = absurd (omega (arith, ltb-true n 0 h))
 absent (negsuc n) age most h = refl
 
-told : (c : tie.Else-oldest-lt0) → c.before.args.oldest ≡ pos (mag c.before.args.oldest)
-told c = not_negative c.before.args.oldest (rw (to_z-of_z c.before.ranges.oldest) at c.if-oldest-lt0.false)
+told : (c : tie.Else-oldest-lt0) → c.args.oldest ≡ pos (mag c.args.oldest)
+told c = not_negative c.args.oldest (rw (to_z-of_z c.ranges.oldest) at c.if-oldest-lt0.false)
 
 returns-then-oldest-lt0 : tie.Need-returns-then-oldest-lt0
 returns-then-oldest-lt0 c =
-    let a = c.before.args in
-    absent a.oldest a.age a.most (rw (to_z-of_z c.before.ranges.oldest) at c.if-oldest-lt0.true)
+    let a = c.args in
+    absent a.oldest a.age a.most (rw (to_z-of_z c.ranges.oldest) at c.if-oldest-lt0.true)
 
 overflow_cast-result : tie.Need-overflow_cast-result
-overflow_cast-result c = rw (to_z-of_z c.before.ranges.oldest, told c) (tt, record { fits = omega arith })
+overflow_cast-result c = rw (to_z-of_z c.ranges.oldest, told c) (tt, record { fits = omega arith })
 
 overflow_mul-result : tie.Need-overflow_mul-result
 overflow_mul-result c =
-    let a = c.before.args in
+    let a = c.args in
     let h = mul-le-mul_left {m = a.most} {n = 8} (mag a.oldest) (omega arith) in
-    rw (to_z-of_z c.before.ranges.oldest, told c) record { fits = omega arith }
+    rw (to_z-of_z c.ranges.oldest, told c) record { fits = omega arith }
 
 returns : tie.Need-returns
-returns c = rw (to_z-of_z c.before.ranges.oldest, told c)
+returns c = rw (to_z-of_z c.ranges.oldest, told c)
 
 pub is_due_spec : {M : Type 1} → statement M
 is_due_spec = tie.close (tie.spec returns-then-oldest-lt0 overflow_cast-result overflow_mul-result returns)

@@ -9,9 +9,9 @@ use Rattle.parts.proofs.past.make_room.Statement.{statement}
 use Rattle.parts.proofs.past.make_room.Tie as tie
 
 history : (c : tie.After-move_down-arg-1)
-    → (c.before.before.before.args.most - 1) * c.before.before.before.args.width + c.before.before.before.args.width
-    ≡ c.before.before.before.args.most * c.before.before.before.args.width
-history c = all_but_one c.before.before.before.args.most c.before.before.before.args.width (omega arith)
+    → (c.args.most - 1) * c.args.width + c.args.width
+    ≡ c.args.most * c.args.width
+history c = all_but_one c.args.most c.args.width (omega arith)
 
 overflow_add-at : tie.Need-overflow_add-at
 overflow_add-at c = record { fits = omega (arith, history c) }
@@ -30,11 +30,11 @@ shape_of-s c = search rules
 
 returns-then-most-count : tie.Need-returns-then-most-count
 returns-then-most-count c =
-    let a = c.before.before.before.before.before.before.args in
-    rw (le-ltb a.count a.most (omega arith)) c.before.before.move_down.ensures
+    let a = c.args in
+    rw (le-ltb a.count a.most (omega arith)) c.move_down.ensures
 
 returns-else-most-count : tie.Need-returns-else-most-count
-returns-else-most-count c = rw (lt-ltb c.before.before.args.count c.before.before.args.most (omega arith))
+returns-else-most-count c = rw (lt-ltb c.args.count c.args.most (omega arith))
 
 pub make_room_spec : {M : Type 1} → statement M
 make_room_spec =

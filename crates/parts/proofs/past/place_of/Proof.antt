@@ -11,28 +11,28 @@ inside : (s : tie.Start) (k : ℕ) → k ≤ s.args.most → s.args.at + k * s.a
 inside s k h = omega (arith, mul-le-mul_right {m = k} {n = s.args.most} s.args.width h)
 
 overflow_mul-result : tie.Need-overflow_mul-result
-overflow_mul-result c = record { fits = omega (arith, inside c.before c.before.args.count (omega arith)) }
+overflow_mul-result c = record { fits = omega (arith, inside c.before c.args.count (omega arith)) }
 
 overflow_add-result : tie.Need-overflow_add-result
-overflow_add-result c = record { fits = omega (arith, inside c.before c.before.args.count (omega arith)) }
+overflow_add-result c = record { fits = omega (arith, inside c.before c.args.count (omega arith)) }
 
 returns-then-count-most : tie.Need-returns-then-count-most
 returns-then-count-most c =
-    let e : min c.before.args.count (c.before.args.most - 1) ≡ c.before.args.count = omega arith in
+    let e : min c.args.count (c.args.most - 1) ≡ c.args.count = omega arith in
     rw e
 
 overflow_sub-result : tie.Need-overflow_sub-result
 overflow_sub-result c = search rules
 
 overflow_mul-result-2 : tie.Need-overflow_mul-result-2
-overflow_mul-result-2 c = record { fits = omega (arith, inside c.before (c.before.args.most - 1) (omega arith)) }
+overflow_mul-result-2 c = record { fits = omega (arith, inside c.before (c.args.most - 1) (omega arith)) }
 
 overflow_add-result-2 : tie.Need-overflow_add-result-2
-overflow_add-result-2 c = record { fits = omega (arith, inside c.before (c.before.args.most - 1) (omega arith)) }
+overflow_add-result-2 c = record { fits = omega (arith, inside c.before (c.args.most - 1) (omega arith)) }
 
 returns : tie.Need-returns
 returns c =
-    let e : min c.before.args.count (c.before.args.most - 1) ≡ c.before.args.most - 1 = omega arith in
+    let e : min c.args.count (c.args.most - 1) ≡ c.args.most - 1 = omega arith in
     rw e
 
 pub place_of_spec : {M : Type 1} → statement M

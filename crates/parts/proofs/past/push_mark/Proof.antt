@@ -17,7 +17,7 @@ bounds-next-count c = search rules
 
 returns-then-count-most : tie.Need-returns-then-count-most
 returns-then-count-most c =
-    let a = c.before.args in
+    let a = c.args in
     let n : length a.past ≡ 8 = search rules in
     let place : 0 + min a.count (a.most - 1) * 1 ≡ a.count = omega arith in
     rw (lt-ltb a.count a.most (omega arith), place) (paste-one a.past a.count a.entry (omega arith))
@@ -36,7 +36,7 @@ bounds-next-most c = search rules
 
 returns : tie.Need-returns
 returns c =
-    let a = c.before.before.args in
+    let a = c.args in
     let n : length c.shifted-next.result ≡ 8 = search rules in
     let place : 0 + min a.count (a.most - 1) * 1 ≡ a.most - 1 = omega arith in
     let moved : (a.most - 1) * 1 ≡ a.most - 1 = omega arith in

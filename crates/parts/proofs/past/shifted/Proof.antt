@@ -44,8 +44,8 @@ loop-i-smaller c = search rules
 
 loop-i-preserved : tie.Need-loop-i-preserved invariant-loop-i decreases-loop-i
 loop-i-preserved c =
-    let past₀ = c.before.before.before.args.past in
-    let loop = c.before.before.loop-i in
+    let past₀ = c.args.past in
+    let loop = c.loop-i in
     let e : suc (loop.i - 1) ≡ loop.i + 1 - 1 = omega arith in
     let none : PastDetection = record { age = pos 0; has_scores = false } in
     let turn = move_suc past₀ 0 1 (loop.i - 1) (loop.i - 1) loop.i none (omega arith) (omega arith) (omega arith) (omega arith) in
@@ -53,8 +53,8 @@ loop-i-preserved c =
 
 returns : tie.Need-returns invariant-loop-i decreases-loop-i
 returns c =
-    let e : c.before.loop-i.i ≡ c.before.before.args.most = omega arith in
-    rw e at c.before.loop-i.invariant.3
+    let e : c.loop-i.i ≡ c.args.most = omega arith in
+    rw e at c.loop-i.invariant.3
 
 pub shifted_spec : {M : Type 1} → statement M
 shifted_spec =

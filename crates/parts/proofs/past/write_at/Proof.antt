@@ -43,8 +43,8 @@ loop-i-smaller c = search rules
 
 loop-i-preserved : tie.Need-loop-i-preserved invariant-loop-i decreases-loop-i
 loop-i-preserved c =
-    let a = c.before.before.before.args in
-    let loop = c.before.before.loop-i in (
+    let a = c.args in
+    let loop = c.loop-i in (
       search rules,
       simp length-set loop.invariant.1,
       rw (add-one, loop.invariant.2) (paste-suc a.s.now a.at a.src.now loop.i nan (omega arith) (omega arith)),
@@ -54,7 +54,7 @@ shape_of-s : tie.Need-shape_of-s invariant-loop-i decreases-loop-i
 shape_of-s c = search rules
 
 returns : tie.Need-returns invariant-loop-i decreases-loop-i
-returns c = rw (le_antisymm c.before.loop-i.invariant.0 c.loop-i-test.false) at c.before.loop-i.invariant.2
+returns c = rw (le_antisymm c.loop-i.invariant.0 c.loop-i-test.false) at c.loop-i.invariant.2
 
 pub write_at_spec : {M : Type 1} → statement M
 write_at_spec =

@@ -21,8 +21,8 @@ returns : tie.Need-returns
 returns c =
     let s = c.before.before.before.before.before.before.before.before.before.before.before in
     let a = s.args in
-    c.before.before.write_at-2.ensures
-    ∙ rw c.before.before.before.before.before.before.write_at.ensures
+    c.write_at-2.ensures
+    ∙ rw c.write_at.ensures
     (paste-append a.s-1.now a.at a.points.now a.scores.now a.n a.p s.requires.1 s.requires.0)
 
 pub write_detection_spec : {M : Type 1} → statement M

@@ -44,11 +44,11 @@ loop-i-smaller c = search rules
 loop-i-preserved : tie.Need-loop-i-preserved invariant-loop-i decreases-loop-i
 unfolding points_fallen
 loop-i-preserved c =
-    let loop = c.before.before.loop-i in
+    let loop = c.loop-i in
     (search rules, turns_next _ loop.i _ (ap (set loop.counters loop.i) c.lowered.ensures) loop.invariant.1)
 
 returns : tie.Need-returns invariant-loop-i decreases-loop-i
-returns c = rw (le_antisymm c.before.loop-i.invariant.0 c.loop-i-test.false) at c.before.loop-i.invariant.1
+returns c = rw (le_antisymm c.loop-i.invariant.0 c.loop-i-test.false) at c.loop-i.invariant.1
 
 pub fall_points_spec : {M : Type 1} → statement M
 fall_points_spec =

@@ -41,8 +41,8 @@ bounds-counters-i c = search rules
 capped-requires : tie.Need-capped-requires invariant-loop-i decreases-loop-i
 capped-requires c κs =
     let s = c.before.before.before.before.before.before in
-    let loop = c.before.before.before.before.loop-i in (
-      rw loop.invariant.1 (hit_in_range _ _ _ _ _ _ _ s.requires.3 _ s.requires.4 loop.i c.before.before.before.loop-i-test.true),
+    let loop = c.loop-i in (
+      rw loop.invariant.1 (hit_in_range _ _ _ _ _ _ _ s.requires.3 _ s.requires.4 loop.i c.loop-i-test.true),
       search rules,
     )
 
@@ -61,8 +61,8 @@ loop-i-smaller c = search rules
 loop-i-preserved : tie.Need-loop-i-preserved invariant-loop-i decreases-loop-i
 unfolding points_hit
 loop-i-preserved c =
-    let loop = c.before.before.before.before.loop-i in
-    let tested = sym c.before.is_above.ensures in (
+    let loop = c.loop-i in
+    let tested = sym c.is_above.ensures in (
       search rules,
       turns_next _ loop.i _ {b = loop.counters}
           (⊎_elim
@@ -73,7 +73,7 @@ loop-i-preserved c =
     )
 
 returns : tie.Need-returns invariant-loop-i decreases-loop-i
-returns c = rw (le_antisymm c.before.loop-i.invariant.0 c.loop-i-test.false) at c.before.loop-i.invariant.1
+returns c = rw (le_antisymm c.loop-i.invariant.0 c.loop-i-test.false) at c.loop-i.invariant.1
 
 pub hit_points_spec : {M : Type 1} → statement M
 hit_points_spec =

@@ -42,8 +42,8 @@ loop-i-smaller c = search rules
 loop-i-preserved : tie.Need-loop-i-preserved invariant-loop-i decreases-loop-i
 unfolding flags_set
 loop-i-preserved c =
-    let loop = c.before.before.before.before.loop-i in
-    let tested = sym c.before.is_above.ensures in (
+    let loop = c.loop-i in
+    let tested = sym c.is_above.ensures in (
       search rules,
       turns_next _ loop.i _ {b = loop.flags}
           (⊎_elim
@@ -54,7 +54,7 @@ loop-i-preserved c =
     )
 
 returns : tie.Need-returns invariant-loop-i decreases-loop-i
-returns c = rw (le_antisymm c.before.loop-i.invariant.0 c.loop-i-test.false) at c.before.loop-i.invariant.1
+returns c = rw (le_antisymm c.loop-i.invariant.0 c.loop-i-test.false) at c.loop-i.invariant.1
 
 pub set_flags_spec : {M : Type 1} → statement M
 set_flags_spec =

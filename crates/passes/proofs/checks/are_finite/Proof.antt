@@ -36,13 +36,13 @@ is_finite-requires c κs = search rules
 
 -- what the call says of the coordinate that the code read
 answered : (c : tie.After-is_finite invariant-loop-i decreases-loop-i)
-    → bad (get_or c.before.before.before.before.before.args.points.now c.before.before.before.loop-i.i nan) ≡ not c.is_finite.result
+    → bad (get_or c.args.points.now c.loop-i.i nan) ≡ not c.is_finite.result
 answered c = ap not (sym c.is_finite.ensures)
 
 returns-then-not-is_finite : tie.Need-returns-then-not-is_finite invariant-loop-i decreases-loop-i
 returns-then-not-is_finite c =
-    let points = c.before.before.before.before.before.before.args.points.now in
-    let loop = c.before.before.before.before.loop-i in
+    let points = c.args.points.now in
+    let loop = c.loop-i in
     sym (ap not (loop.invariant.1 ∙ any_here bad points loop.i nan (omega arith) (answered c.before ∙ c.if-not-is_finite.true-raw)))
 
 overflow_add-i : tie.Need-overflow_add-i invariant-loop-i decreases-loop-i
@@ -53,12 +53,12 @@ loop-i-smaller c = search rules
 
 loop-i-preserved : tie.Need-loop-i-preserved invariant-loop-i decreases-loop-i
 loop-i-preserved c =
-    let points = c.before.before.before.before.before.before.args.points.now in
-    let loop = c.before.before.before.before.loop-i in
+    let points = c.args.points.now in
+    let loop = c.loop-i in
     (omega arith, rw add-one (loop.invariant.1 ∙ any_on bad points loop.i nan (omega arith) (answered c.before ∙ c.if-not-is_finite.false-raw)))
 
 returns : tie.Need-returns invariant-loop-i decreases-loop-i
-returns c = sym (ap not (c.before.loop-i.invariant.1 ∙ any_end bad c.before.before.before.args.points.now c.before.loop-i.i (omega arith)))
+returns c = sym (ap not (c.loop-i.invariant.1 ∙ any_end bad c.args.points.now c.loop-i.i (omega arith)))
 
 pub are_finite_spec : {M : Type 1} → statement M
 are_finite_spec =

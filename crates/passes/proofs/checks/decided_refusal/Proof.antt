@@ -18,7 +18,7 @@ are_finite-not_finite-requires : tie.Need-are_finite-not_finite-requires
 are_finite-not_finite-requires c κs = search rules
 
 -- what the call says of the coordinates
-answered : (c : tie.After-are_finite-not_finite) → any (λ x. not (finite x)) c.before.before.args.points.now ≡ not c.are_finite-not_finite.result
+answered : (c : tie.After-are_finite-not_finite) → any (λ x. not (finite x)) c.args.points.now ≡ not c.are_finite-not_finite.result
 answered c = sym (not-not _) ∙ ap not (sym c.are_finite-not_finite.ensures)
 
 overflow_add-full : tie.Need-overflow_add-full
@@ -30,7 +30,7 @@ returns-then-not_finite c = rw (answered c.before.before.before, c.if-not_finite
 
 returns-then-full : tie.Need-returns-then-full
 unfolding first_due
-returns-then-full c = rw (answered c.before.before.before.before, c.before.if-not_finite.false-raw, c.if-full.true-raw)
+returns-then-full c = rw (answered c.before.before.before.before, c.if-not_finite.false-raw, c.if-full.true-raw)
 
 abbrev given : tie.Else-full → tie.Start
 given c = c.before.before.before.before.before.before
@@ -44,7 +44,7 @@ neither : (c : tie.Else-full) →
     let a = (given c).args in
     first_due (decided_checks a.config a.counts a.points.now a.more) ≡ first_due (check 14 (ltb 2000000000 (all c)) ∷ [])
 unfolding first_due
-neither c = rw (answered c.before.before.before.before, c.before.if-not_finite.false-raw, c.if-full.false-raw)
+neither c = rw (answered c.before.before.before.before, c.if-not_finite.false-raw, c.if-full.false-raw)
 
 overflow_cast-more : tie.Need-overflow_cast-more
 overflow_cast-more c = search rules

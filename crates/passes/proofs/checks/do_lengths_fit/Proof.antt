@@ -13,7 +13,7 @@ layout_of-at-requires c κs = search rules
 overflow_mul-points : tie.Need-overflow_mul-points
 overflow_mul-points c =
     let s = c.before.before in
-    let few : c.before.layout_of-at.result.coords ≤ 48 = rw c.before.layout_of-at.ensures (coords-most s.args.config s.requires.0) in
+    let few : c.layout_of-at.result.coords ≤ 48 = rw c.layout_of-at.ensures (coords-most s.args.config s.requires.0) in
     record { fits = omega (arith, mul-le-mul s.requires.2 few) }
 
 overflow_mul-scores : tie.Need-overflow_mul-scores
@@ -36,7 +36,7 @@ both-requires-3 : tie.Need-both-requires-3
 both-requires-3 c κs = search rules
 
 returns : tie.Need-returns
-returns c = rw (c.both-3.ensures, c.before.both-2.ensures, c.before.before.both.ensures, c.before.before.before.before.before.before.before.before.before.layout_of-at.ensures)
+returns c = rw (c.both-3.ensures, c.both-2.ensures, c.both.ensures, c.layout_of-at.ensures)
 
 pub do_lengths_fit_spec : {M : Type 1} → statement M
 do_lengths_fit_spec =

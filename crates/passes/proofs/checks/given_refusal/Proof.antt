@@ -37,21 +37,21 @@ step-passed c = rw c.if-first-ne0.false at (then-given c.before)
 few-passed : (c : tie.Else-detections-gt32) → let checks = asked c.before.before.before.before.before.before.before in first_due checks ≡ first_due (drop 5 checks)
 unfolding first_due
 few-passed c =
-    let between_is = c.before.before.is_between.ensures in
-    rw (step-passed c.before.before.before, sym between_is ∙ not-false _ c.before.if-not-is_between.false-raw, le-ltb 32 _ c.if-detections-gt32.false)
+    let between_is = c.is_between.ensures in
+    rw (step-passed c.before.before.before, sym between_is ∙ not-false _ c.if-not-is_between.false-raw, le-ltb 32 _ c.if-detections-gt32.false)
 
 abbrev begun : tie.Else-not-do_lengths_fit → tie.Start
 begun c = c.before.before.before.before.before.before.before.before.before
 
 lengths-passed : (c : tie.Else-not-do_lengths_fit) → let checks = asked (begun c) in first_due checks ≡ first_due (drop 6 checks)
 unfolding first_due
-lengths-passed c = rw (few-passed c.before.before, sym c.before.do_lengths_fit.ensures ∙ not-false _ c.if-not-do_lengths_fit.false-raw)
+lengths-passed c = rw (few-passed c.before.before, sym c.do_lengths_fit.ensures ∙ not-false _ c.if-not-do_lengths_fit.false-raw)
 
 -- where the step's checks passed the table is whole
-facts : (c : tie.Else-first-ne0) → WholeFacts c.before.before.before.before.args.t
+facts : (c : tie.Else-first-ne0) → WholeFacts c.args.t
 facts c =
-    let a = c.before.before.before.before.args in
-    let none = none-due (step_checks Match a.t a.floats) (omega arith, (omega arith, (omega arith, tt))) (sym c.before.step_refusal-first.ensures ∙ c.if-first-ne0.false) in
+    let a = c.args in
+    let none = none-due (step_checks Match a.t a.floats) (omega arith, (omega arith, (omega arith, tt))) (sym c.step_refusal-first.ensures ∙ c.if-first-ne0.false) in
     whole_facts a.t (not-false _ none.0)
 
 returns-then-first-ne0 : tie.Need-returns-then-first-ne0
@@ -62,13 +62,13 @@ is_between-requires c κs = search rules
 
 returns-then-not-is_between : tie.Need-returns-then-not-is_between
 unfolding first_due
-returns-then-not-is_between c = rw (step-passed c.before.before, sym c.before.is_between.ensures ∙ not-true _ c.if-not-is_between.true-raw)
+returns-then-not-is_between c = rw (step-passed c.before.before, sym c.is_between.ensures ∙ not-true _ c.if-not-is_between.true-raw)
 
 returns-then-detections-gt32 : tie.Need-returns-then-detections-gt32
 unfolding first_due
 returns-then-detections-gt32 c =
-    let between_is = c.before.before.is_between.ensures in
-    rw (step-passed c.before.before.before, sym between_is ∙ not-false _ c.before.if-not-is_between.false-raw, lt-ltb 32 _ c.if-detections-gt32.true)
+    let between_is = c.is_between.ensures in
+    rw (step-passed c.before.before.before, sym between_is ∙ not-false _ c.if-not-is_between.false-raw, lt-ltb 32 _ c.if-detections-gt32.true)
 
 do_lengths_fit-requires : tie.Need-do_lengths_fit-requires
 do_lengths_fit-requires c κs =
@@ -77,7 +77,7 @@ do_lengths_fit-requires c κs =
 
 returns-then-not-do_lengths_fit : tie.Need-returns-then-not-do_lengths_fit
 unfolding first_due
-returns-then-not-do_lengths_fit c = rw (few-passed c.before.before, sym c.before.do_lengths_fit.ensures ∙ not-true _ c.if-not-do_lengths_fit.true-raw)
+returns-then-not-do_lengths_fit c = rw (few-passed c.before.before, sym c.do_lengths_fit.ensures ∙ not-true _ c.if-not-do_lengths_fit.true-raw)
 
 returns-then-lengths-lt32 : tie.Need-returns-then-lengths-lt32
 unfolding first_due

@@ -40,13 +40,13 @@ bounds-list-i : tie.Need-bounds-list-i invariant-loop-i decreases-loop-i
 bounds-list-i c = search rules
 
 overflow_add-at : tie.Need-overflow_add-at invariant-loop-i decreases-loop-i
-overflow_add-at c = record { fits = omega (arith, c.before.before.before.before.requires.0) }
+overflow_add-at c = record { fits = omega (arith, c.requires.0) }
 
 offset_bounds-at-start : tie.Need-offset_bounds-at-start invariant-loop-i decreases-loop-i
-offset_bounds-at-start c = record { fits = omega (arith, c.before.before.before.before.requires.0) }
+offset_bounds-at-start c = record { fits = omega (arith, c.requires.0) }
 
 bounds-at-start : tie.Need-bounds-at-start invariant-loop-i decreases-loop-i
-bounds-at-start c = omega (arith, c.before.before.before.before.requires.0)
+bounds-at-start c = omega (arith, c.requires.0)
 
 overflow_add-i : tie.Need-overflow_add-i invariant-loop-i decreases-loop-i
 overflow_add-i c = search rules
@@ -57,7 +57,7 @@ loop-i-smaller c = search rules
 loop-i-preserved : tie.Need-loop-i-preserved invariant-loop-i decreases-loop-i
 loop-i-preserved c =
     let s = c.before.before.before.before in
-    let loop = c.before.before.loop-i in
+    let loop = c.loop-i in
     let front = numbers s.args.front in
     let list = s.args.list.now in
     let l = take loop.i list in
@@ -74,7 +74,7 @@ overflow_add-result c = search rules
 returns : tie.Need-returns invariant-loop-i decreases-loop-i
 returns c =
     let s = c.before.before.before in
-    let loop = c.before.loop-i in
+    let loop = c.loop-i in
     let e : loop.i ≡ s.args.m = omega arith in
     rw (← e, loop.invariant.1.0, loop.invariant.1.1)
 

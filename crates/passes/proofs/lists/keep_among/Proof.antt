@@ -52,20 +52,20 @@ among-asked false false = refl
 -- what the call says of the number that the code read
 answered : (c : tie.After-is_among invariant-loop-i decreases-loop-i) →
     let s = c.before.before.before.before.before in
-    test s (get_or s.args.of.at c.before.before.loop-i.i 0) ≡ beq c.is_among.result s.args.wanted
+    test s (get_or s.args.of.at c.loop-i.i 0) ≡ beq c.is_among.result s.args.wanted
 answered c =
     let s = c.before.before.before.before.before in
-    rw c.is_among.ensures (among-asked s.args.wanted (holds (get_or s.args.of.at c.before.before.loop-i.i 0) (take s.args.m s.args.list.now)))
+    rw c.is_among.ensures (among-asked s.args.wanted (holds (get_or s.args.of.at c.loop-i.i 0) (take s.args.m s.args.list.now)))
 
 -- as many were looked at as turns are done
 looked : (s : tie.Start invariant-loop-i decreases-loop-i) (i : ℕ) → i ≤ 64 → length (take i s.args.of.at) ≡ i
 looked s i h = length-take-le i s.args.of.at (omega (arith, whole s))
 
 -- there is room for one number more
-room : (c : tie.After-is_among invariant-loop-i decreases-loop-i) → c.before.before.loop-i.count ≤ 63
+room : (c : tie.After-is_among invariant-loop-i decreases-loop-i) → c.loop-i.count ≤ 63
 room c =
     let s = c.before.before.before.before.before in
-    let i = c.before.before.loop-i.i in
+    let i = c.loop-i.i in
     omega (arith, length-keep (test s) (take i s.args.of.at), looked s i (omega arith))
 
 offset_bounds-at-count : tie.Need-offset_bounds-at-count invariant-loop-i decreases-loop-i
@@ -86,7 +86,7 @@ loop-i-smaller c = search rules
 loop-i-preserved : tie.Need-loop-i-preserved invariant-loop-i decreases-loop-i
 loop-i-preserved c =
     let s = c.before.before.before.before.before.before in
-    let loop = c.before.before.before.loop-i in
+    let loop = c.loop-i in
     let from = s.args.of.at in
     let l = take loop.i from in
     let x = get_or from loop.i 0 in
@@ -99,8 +99,8 @@ loop-i-preserved c =
 
 returns : tie.Need-returns invariant-loop-i decreases-loop-i
 returns c =
-    let loop = c.before.loop-i in
-    let e : loop.i ≡ c.before.before.before.before.args.of.count = omega arith in
+    let loop = c.loop-i in
+    let e : loop.i ≡ c.args.of.count = omega arith in
     rw (loop.invariant.1.0, loop.invariant.1.1, e)
 
 pub keep_among_spec : {M : Type 1} → statement M

@@ -19,10 +19,10 @@ keep_among-requires : tie.Need-keep_among-requires
 keep_among-requires c κs =
     let s = c.before.before.before.before in
     let all : length s.args.second.rows ≡ 32 = simp length-map at s.well_formed.1.1.0.1.1.0.1.0.1 in
-    (rw c.before.get_unmatched-left.ensures (le_trans (at_most-total _ _) (omega (arith, s.requires.0))), omega (arith, s.requires.2))
+    (rw c.get_unmatched-left.ensures (le_trans (at_most-total _ _) (omega (arith, s.requires.0))), omega (arith, s.requires.2))
 
 returns : tie.Need-returns
-returns c = rw (c.keep_among.ensures, c.before.before.get_unmatched-left.ensures, numbers-numbers_of)
+returns c = rw (c.keep_among.ensures, c.get_unmatched-left.ensures, numbers-numbers_of)
 
 pub left_over_spec : {M : Type 1} → statement M
 left_over_spec = tie.close (tie.spec get_unmatched-left-requires slice_bounds-keep_among-end keep_among-requires returns)

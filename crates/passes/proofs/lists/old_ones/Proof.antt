@@ -44,12 +44,12 @@ keep_among-left-requires : tie.Need-keep_among-left-requires
 keep_among-left-requires c κs =
     let s = c.before.before.before.before in
     let all : length s.args.alive.at ≡ 64 = simp length-map at s.well_formed.1.0.1.1.0.1.0.1 in
-    (rw c.before.get_unmatched-unmatched.ensures (omega (arith, s.requires.0, at_most-total s.args.records (cols_picked s.args.first))), omega (arith, s.requires.1))
+    (rw c.get_unmatched-unmatched.ensures (omega (arith, s.requires.0, at_most-total s.args.records (cols_picked s.args.first))), omega (arith, s.requires.1))
 
 is-left : (c : tie.After-keep_among-left) → c.keep_among-left.result ≡ numbers_of (alive-left (given c))
 is-left c =
     let s = given c in
-    c.keep_among-left.ensures ∙ rw (listed_is (unmatched s.args.records (cols_picked s.args.first)) c.before.before.get_unmatched-unmatched.ensures)
+    c.keep_among-left.ensures ∙ rw (listed_is (unmatched s.args.records (cols_picked s.args.first)) c.get_unmatched-unmatched.ensures)
 
 slice_bounds-keep_among-end-2 : tie.Need-slice_bounds-keep_among-end-2
 slice_bounds-keep_among-end-2 c = search rules

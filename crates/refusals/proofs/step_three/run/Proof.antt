@@ -68,7 +68,7 @@ slice-aggregate-same-floats : tie.Need-slice-aggregate-same-floats
 slice-aggregate-same-floats c = search rules
 
 slice-aggregate-same-floats-2 : tie.Need-slice-aggregate-same-floats-2
-slice-aggregate-same-floats-2 c = let h = c.before.before.before.before.before.before.before.before.before.before.before.reid.auto.1.0 in rw length_front
+slice-aggregate-same-floats-2 c = let h = c.reid.auto.1.0 in rw length_front
 
 same-floats-requires : tie.Need-same-floats-requires
 same-floats-requires c κs = search rules

@@ -70,10 +70,10 @@ run-requires-2 : tie.Need-run-requires-2 invariant-loop2 decreases-loop2 invaria
 run-requires-2 c κs = search rules
 
 add-j : tie.Need-overflow-add-j invariant-loop2 decreases-loop2 invariant-loop decreases-loop
-add-j c = record { fits = omega (arith, c.before.before.before.before.before.before.before.before.before.before.before.loop2-test.true) }
+add-j c = record { fits = omega (arith, c.loop2-test.true) }
 
 loop2-less : tie.Need-loop2-smaller invariant-loop2 decreases-loop2 invariant-loop decreases-loop
-loop2-less c = omega (arith, c.before.before.before.before.before.before.before.before.before.before.before.loop2-test.true)
+loop2-less c = omega (arith, c.loop2-test.true)
 
 loop2-again : tie.Need-loop2-preserved invariant-loop2 decreases-loop2 invariant-loop decreases-loop
 loop2-again c = search rules

@@ -34,7 +34,7 @@ is_active-requires c κs = search rules
 overflow_add-count : tie.Need-overflow_add-count invariant-loop-i decreases-loop-i
 overflow_add-count c =
     let l = c.before.before.before.before in
-    record { fits = omega (arith, simp length-map at (active-few l.loop-i.i l.before.args.records)) }
+    record { fits = omega (arith, simp length-map at (active-few l.loop-i.i l.args.records)) }
 
 overflow_add-i : tie.Need-overflow_add-i invariant-loop-i decreases-loop-i
 overflow_add-i c = search rules
@@ -45,17 +45,17 @@ loop-i-smaller c = search rules
 loop-i-preserved : tie.Need-loop-i-preserved invariant-loop-i decreases-loop-i
 loop-i-preserved c =
     let l = c.before.before.before.before in
-    let records = l.before.args.records in
-    let h : l.loop-i.i < length records = omega (arith, l.before.well_formed.0.1.0.1) in
+    let records = l.args.records in
+    let h : l.loop-i.i < length records = omega (arith, l.well_formed.0.1.0.1) in
     ⊎_elim
-    (λ w. (omega arith, rw w.1 (one_more records l.loop-i.i blank h (sym c.before.is_active.ensures ∙ w.0.taken) l.loop-i.invariant.1)))
-    (λ w. (omega arith, rw w.1 (no_more records l.loop-i.i blank h (sym c.before.is_active.ensures ∙ w.0.left) l.loop-i.invariant.1)))
+    (λ w. (omega arith, rw w.1 (one_more records l.loop-i.i blank h (sym c.is_active.ensures ∙ w.0.taken) l.loop-i.invariant.1)))
+    (λ w. (omega arith, rw w.1 (no_more records l.loop-i.i blank h (sym c.is_active.ensures ∙ w.0.left) l.loop-i.invariant.1)))
     c.if-is_active.branch
 
 returns : tie.Need-returns invariant-loop-i decreases-loop-i
 returns c =
-    let e : c.before.loop-i.i ≡ c.before.before.args.n = omega arith in
-    rw e at c.before.loop-i.invariant.1
+    let e : c.loop-i.i ≡ c.args.n = omega arith in
+    rw e at c.loop-i.invariant.1
 
 pub active_count_spec : {M : Type 1} → statement M
 active_count_spec =

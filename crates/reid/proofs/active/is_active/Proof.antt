@@ -8,7 +8,7 @@ both-requires : tie.Need-both-requires
 both-requires c κs = search rules
 
 returns : tie.Need-returns
-returns c = rw (c.both.ensures, to_z-of_z (record { sfits = c.before.struct_told-1.given.1.0.1 }))
+returns c = rw (c.both.ensures, to_z-of_z (record { sfits = c.struct_told-1.given.1.0.1 }))
 
 pub is_active_spec : {M : Type 1} → statement M
 is_active_spec = tie.close (tie.spec both-requires returns)

@@ -32,12 +32,12 @@ is_active-requires : tie.Need-is_active-requires invariant-loop-i decreases-loop
 is_active-requires c κs = search rules
 
 -- there is room for one ID more
-room : (c : tie.In-loop-i invariant-loop-i decreases-loop-i) → (c.before.loop-i.count < 64) × (c.before.loop-i.count < length c.before.loop-i.list)
+room : (c : tie.In-loop-i invariant-loop-i decreases-loop-i) → (c.loop-i.count < 64) × (c.loop-i.count < length c.loop-i.list)
 room c =
     let l = c.before in
-    let list₀ = l.before.before.args.list.now in
-    let few = active-few l.loop-i.i l.before.before.args.records in
-    let long = listed_long l.before.before.args.records l.loop-i.i list₀ l.loop-i.invariant.1 (omega arith) in
+    let list₀ = l.args.list.now in
+    let few = active-few l.loop-i.i l.args.records in
+    let long = listed_long l.args.records l.loop-i.i list₀ l.loop-i.invariant.1 (omega arith) in
     (omega arith, omega arith)
 
 offset_bounds-list-count : tie.Need-offset_bounds-list-count invariant-loop-i decreases-loop-i
@@ -59,10 +59,10 @@ loop-i-preserved : tie.Need-loop-i-preserved invariant-loop-i decreases-loop-i
 loop-i-preserved c =
     let t = c.before.before.before in
     let l = t.before in
-    let records = l.before.before.args.records in
-    let list₀ = l.before.before.args.list.now in
-    let h : l.loop-i.i < length records = omega (arith, l.before.before.well_formed.0.1.0.1) in
-    let told = sym c.before.is_active.ensures in
+    let records = l.args.records in
+    let list₀ = l.args.list.now in
+    let h : l.loop-i.i < length records = omega (arith, l.well_formed.0.1.0.1) in
+    let told = sym c.is_active.ensures in
     let few : length (active_ids l.loop-i.i records) < length list₀ = omega (arith, active-few l.loop-i.i records) in
     ⊎_elim
     (λ w. let next = listed_more records l.loop-i.i blank h list₀ l.loop-i.invariant.1 (told ∙ w.0.taken) few in (omega arith, (w.3 ∙ next.0, w.2 ∙ next.1)))
@@ -72,13 +72,13 @@ loop-i-preserved c =
 shape_of-list : tie.Need-shape_of-list invariant-loop-i decreases-loop-i
 shape_of-list c =
     let l = c.before in
-    let a = l.before.before.args in
+    let a = l.args in
     listed_long a.t1 l.loop-i.i a.list.now l.loop-i.invariant.1 (omega (arith, active-few l.loop-i.i a.t1))
 
 returns : tie.Need-returns invariant-loop-i decreases-loop-i
 returns c =
-    let e : c.before.loop-i.i ≡ c.before.before.before.args.n = omega arith in
-    rw e at c.before.loop-i.invariant.1
+    let e : c.loop-i.i ≡ c.args.n = omega arith in
+    rw e at c.loop-i.invariant.1
 
 pub list_active_spec : {M : Type 1} → statement M
 list_active_spec =

@@ -44,23 +44,23 @@ candidates_met-requires : tie.Need-candidates_met-requires
 candidates_met-requires c κs = search rules
 
 -- where the step's checks passed the table is whole
-facts : (c : tie.Else-first-ne0) → WholeFacts c.before.before.before.before.before.before.args.t
+facts : (c : tie.Else-first-ne0) → WholeFacts c.args.t
 facts c =
-    let a = c.before.before.before.before.before.before.args in
-    let none = none-due (step_checks Reid a.t a.floats) (omega arith, (omega arith, (omega arith, tt))) (sym c.before.step_refusal-first.ensures ∙ c.if-first-ne0.false) in
+    let a = c.args in
+    let none = none-due (step_checks Reid a.t a.floats) (omega arith, (omega arith, (omega arith, tt))) (sym c.step_refusal-first.ensures ∙ c.if-first-ne0.false) in
     whole_facts a.t (not-false _ none.0)
 
 overflow_mul-candidates_met : tie.Need-overflow_mul-candidates_met
 overflow_mul-candidates_met c =
     let e = c.before.before in
-    let t = e.before.before.before.before.before.before.args.t in
+    let t = e.args.t in
     let f = facts e in
     let few = le_trans (met_most t.config-1.has_reid_distance t.lists-1.candidates-1.count) f.candidates-1.count in
-    record { fits = omega (arith, mul-le-mul (rw (← c.before.candidates_met.ensures) at few) f.old-1.count) }
+    record { fits = omega (arith, mul-le-mul (rw (← c.candidates_met.ensures) at few) f.old-1.count) }
 
 -- the entries that the code asks for
-same_asked : (c : tie.After-struct_known-1) → let t = c.before.before.before.before.before.before.before.before.args.t in c.before.candidates_met.result * t.lists-1.old-1.count ≡ distances_asked t
-same_asked c = let t = c.before.before.before.before.before.before.before.before.args.t in ap (λ (n : ℕ). n * t.lists-1.old-1.count) c.before.candidates_met.ensures
+same_asked : (c : tie.After-struct_known-1) → let t = c.args.t in c.candidates_met.result * t.lists-1.old-1.count ≡ distances_asked t
+same_asked c = let t = c.args.t in ap (λ (n : ℕ). n * t.lists-1.old-1.count) c.candidates_met.ensures
 
 returns-then-distances-candidates_met : tie.Need-returns-then-distances-candidates_met
 unfolding first_due

@@ -45,7 +45,7 @@ loop-i-smaller c = search rules
 loop-i-preserved : tie.Need-loop-i-preserved invariant-loop-i decreases-loop-i
 loop-i-preserved c =
     let l = c.before.before in
-    let a = l.before.args in
+    let a = l.args in
     let block = drop a.start a.s.now in
     let h : l.loop-i.i < length block = omega (arith, length-drop a.start a.s.now) in (
       search rules,
@@ -54,8 +54,8 @@ loop-i-preserved c =
 
 returns : tie.Need-returns invariant-loop-i decreases-loop-i
 returns c =
-    let e : c.before.loop-i.i ≡ c.before.before.args.size = omega arith in
-    rw e at c.before.loop-i.invariant.1
+    let e : c.loop-i.i ≡ c.args.size = omega arith in
+    rw e at c.loop-i.invariant.1
 
 pub copy_out_spec : {M : Type 1} → statement M
 copy_out_spec =

@@ -35,10 +35,10 @@ given l = l.before.before.before
 abbrev gone : tie.At-loop-i invariant-loop-i decreases-loop-i → List ℕ
 gone l = take (given l).args.places.count (given l).args.places.rows
 
-abbrev size_of : (l : tie.At-loop-i invariant-loop-i decreases-loop-i) → l.before.layout_of-at.result.size ≡ block_size (given l).args.config
-size_of l = ap (λ (r : Layout). r.size) l.before.layout_of-at.ensures
+abbrev size_of : (l : tie.At-loop-i invariant-loop-i decreases-loop-i) → l.layout_of-at.result.size ≡ block_size (given l).args.config
+size_of l = ap (λ (r : Layout). r.size) l.layout_of-at.ensures
 
-whole : (l : tie.At-loop-i invariant-loop-i decreases-loop-i) → (given l).args.n * l.before.layout_of-at.result.size ≤ length (given l).args.s.now
+whole : (l : tie.At-loop-i invariant-loop-i decreases-loop-i) → (given l).args.n * l.layout_of-at.result.size ≤ length (given l).args.s.now
 whole l = by_size (given l).args.n (length (given l).args.s.now) (size_of l) (given l).requires.2
 
 layout_of-at-requires : tie.Need-layout_of-at-requires invariant-loop-i decreases-loop-i
@@ -65,16 +65,16 @@ loop-i-preserved-then-leaves : tie.Need-loop-i-preserved-then-leaves invariant-l
 loop-i-preserved-then-leaves c =
     let l = c.before.before.before in
     let a = (given l).args in
-    let size = l.before.layout_of-at.result.size in
-    let e = leaves (stays (gone l)) size a.t2 a.s-1.now l.loop-i.i (ap not (sym c.before.leaves.ensures ∙ c.if-leaves.true)) in
+    let size = l.layout_of-at.result.size in
+    let e = leaves (stays (gone l)) size a.t2 a.s-1.now l.loop-i.i (ap not (sym c.leaves.ensures ∙ c.if-leaves.true)) in
     (search rules, rw (add-one, e) l.loop-i.invariant.1, rw (add-one, e) l.loop-i.invariant.2, rw (add-one, e) l.loop-i.invariant.3)
 
 space : (c : tie.In-loop-i invariant-loop-i decreases-loop-i)
-    → let l = c.before in Room l.before.layout_of-at.result.size (given l).args.s.now l.loop-i.s l.loop-i.i l.loop-i.k
+    → let l = c.before in Room l.layout_of-at.result.size (given l).args.s.now l.loop-i.s l.loop-i.i l.loop-i.k
 space c =
     let l = c.before in
     let a = (given l).args in
-    room (stays (gone l)) l.before.layout_of-at.result.size a.t2 a.s-1.now l.loop-i.i c.loop-i-test.true (whole l) l.loop-i.invariant.1 l.loop-i.invariant.3
+    room (stays (gone l)) l.layout_of-at.result.size a.t2 a.s-1.now l.loop-i.i c.loop-i-test.true (whole l) l.loop-i.invariant.1 l.loop-i.invariant.3
 
 offset_bounds-records-i : tie.Need-offset_bounds-records-i invariant-loop-i decreases-loop-i
 offset_bounds-records-i c = search rules
@@ -116,9 +116,9 @@ loop-i-preserved c =
     let t = moved.before.before.before.before.before in
     let l = t.before in
     let a = (given l).args in
-    let size = l.before.layout_of-at.result.size in
+    let size = l.layout_of-at.result.size in
     let p = stays (gone l) in
-    let stay = ap not (sym moved.before.before.before.before.leaves.ensures ∙ moved.before.before.before.if-leaves.false) in
+    let stay = ap not (sym moved.leaves.ensures ∙ moved.if-leaves.false) in
     let all : length a.t2 ≡ 64 = (given l).well_formed.1.0.1.0.1 in (
       search rules,
       rw (add-one l.loop-i.k, add-one l.loop-i.i, one_more p size a.t2 a.s-1.now l.loop-i.i stay) (ap suc l.loop-i.invariant.1),
@@ -131,7 +131,7 @@ shape_of-s : tie.Need-shape_of-s invariant-loop-i decreases-loop-i
 shape_of-s c =
     let l = c.before in
     let a = (given l).args in
-    let size = l.before.layout_of-at.result.size in
+    let size = l.layout_of-at.result.size in
     let front = le_trans (mul-le-mul_right size l.loop-i.invariant.0) (whole l) in
     rw l.loop-i.invariant.3 (moved_length (stays (gone l)) size a.t2 a.s-1.now l.loop-i.i front)
 

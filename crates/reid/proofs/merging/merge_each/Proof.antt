@@ -92,7 +92,7 @@ loop-i-smaller c = search rules
 
 loop-i-preserved : tie.Need-loop-i-preserved invariant-loop-i decreases-loop-i
 loop-i-preserved c =
-    let called = c.before.before.merge_at-next in
+    let called = c.merge_at-next in
     let t = c.before.before.before.before.before.before in
     let l = t.before.before in
     let a = (given l).args in

@@ -17,10 +17,10 @@ are_names-requires : tie.Need-are_names-requires
 are_names-requires c κs =
     let s = c.before.before.before in
     let all : length s.args.list.at-1 ≡ 32 = simp length-map at s.well_formed.0.1.1.0.1.0.1 in
-    omega (arith, c.before.if-n-gt32.false)
+    omega (arith, c.if-n-gt32.false)
 
 returns : tie.Need-returns
-returns c = rw (c.are_names.ensures, le-leb _ 32 c.before.before.if-n-gt32.false)
+returns c = rw (c.are_names.ensures, le-leb _ 32 c.if-n-gt32.false)
 
 pub are_candidates_whole_spec : {M : Type 1} → statement M
 are_candidates_whole_spec = tie.close (tie.spec returns-then-n-gt32 slice_bounds-are_names-end are_names-requires returns)

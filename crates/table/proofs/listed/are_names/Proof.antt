@@ -32,7 +32,7 @@ returns-then-limit-x : tie.Need-returns-then-limit-x invariant-loop-i decreases-
 returns-then-limit-x c =
     let in-loop = c.before.before in
     let s = given in-loop.before in
-    sym (too_large s.args.limit s.args.at.now in-loop.before.loop-i.i s.args.n in-loop.loop-i-test.true c.if-limit-x.true)
+    sym (too_large s.args.limit s.args.at.now in-loop.loop-i.i s.args.n in-loop.loop-i-test.true c.if-limit-x.true)
 
 is_among-requires : tie.Need-is_among-requires invariant-loop-i decreases-loop-i
 is_among-requires c κs = search rules
@@ -41,7 +41,7 @@ returns-then-is_among : tie.Need-returns-then-is_among invariant-loop-i decrease
 returns-then-is_among c =
     let in-loop = c.before.before.before.before in
     let s = given in-loop.before in
-    sym (twice s.args.limit s.args.at.now in-loop.before.loop-i.i s.args.n in-loop.loop-i-test.true (sym c.before.is_among.ensures ∙ c.if-is_among.true))
+    sym (twice s.args.limit s.args.at.now in-loop.loop-i.i s.args.n in-loop.loop-i-test.true (sym c.is_among.ensures ∙ c.if-is_among.true))
 
 overflow_add-i : tie.Need-overflow_add-i invariant-loop-i decreases-loop-i
 overflow_add-i c = search rules
@@ -54,14 +54,14 @@ loop-i-preserved c =
     let l = c.before.before.before.before.before in
     let s = given l in (
       omega arith,
-      new_name s.args.limit s.args.at.now l.loop-i.i l.loop-i.invariant.1 c.before.before.if-limit-x.false
-          (sym c.before.is_among.ensures ∙ c.if-is_among.false),
+      new_name s.args.limit s.args.at.now l.loop-i.i l.loop-i.invariant.1 c.if-limit-x.false
+          (sym c.is_among.ensures ∙ c.if-is_among.false),
     )
 
 returns : tie.Need-returns invariant-loop-i decreases-loop-i
 returns c =
-    let e : c.before.loop-i.i ≡ (given c.before).args.n = omega arith in
-    sym (rw e at c.before.loop-i.invariant.1)
+    let e : c.loop-i.i ≡ (given c.before).args.n = omega arith in
+    sym (rw e at c.loop-i.invariant.1)
 
 pub are_names_spec : {M : Type 1} → statement M
 are_names_spec =

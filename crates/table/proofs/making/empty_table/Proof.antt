@@ -10,7 +10,7 @@ no_lists-lists-requires : tie.Need-no_lists-lists-requires
 no_lists-lists-requires c κs = search rules
 
 returns : tie.Need-returns
-returns c = rw (c.no_lists-lists.ensures, c.before.zero_object-zero.ensures)
+returns c = rw (c.no_lists-lists.ensures, c.zero_object-zero.ensures)
 
 pub empty_table_spec : {M : Type 1} → statement M
 empty_table_spec = tie.close (tie.spec zero_object-zero-requires no_lists-lists-requires returns)

@@ -10,7 +10,7 @@ no_candidates-candidates-requires : tie.Need-no_candidates-candidates-requires
 no_candidates-candidates-requires c κs = search rules
 
 returns : tie.Need-returns
-returns c = rw (c.before.no_numbers-none.ensures, c.no_candidates-candidates.ensures)
+returns c = rw (c.no_numbers-none.ensures, c.no_candidates-candidates.ensures)
 
 pub no_lists_spec : {M : Type 1} → statement M
 no_lists_spec = tie.close (tie.spec no_numbers-none-requires no_candidates-candidates-requires returns)

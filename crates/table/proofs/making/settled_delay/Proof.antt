@@ -27,7 +27,7 @@ stays maximum (negsuc zero) h = absurd (h refl)
 stays maximum (negsuc (suc d)) h = refl
 
 nonzero_div-result : tie.Need-nonzero_div-result
-nonzero_div-result c = (omega arith, rw (to_z-of_z c.before.ranges.maximum) (half-fits c.before.args.maximum c.before.ranges.maximum))
+nonzero_div-result c = (omega arith, rw (to_z-of_z c.ranges.maximum) (half-fits c.args.maximum c.ranges.maximum))
 
 returns-then-delay-eqminus1 : tie.Need-returns-then-delay-eqminus1
 returns-then-delay-eqminus1 c =
@@ -36,7 +36,7 @@ returns-then-delay-eqminus1 c =
     rw (to_z-of_z s.ranges.maximum, to_z-of_z (half-fits s.args.maximum s.ranges.maximum), e)
 
 returns : tie.Need-returns
-returns c = rw (to_z-of_z c.before.ranges.delay) (stays c.before.args.maximum c.before.args.delay c.if-delay-eqminus1.false)
+returns c = rw (to_z-of_z c.ranges.delay) (stays c.args.maximum c.args.delay c.if-delay-eqminus1.false)
 
 pub settled_delay_spec : {M : Type 1} → statement M
 settled_delay_spec = tie.close (tie.spec nonzero_div-result returns-then-delay-eqminus1 returns)

@@ -10,38 +10,38 @@ use Rattle.table.proofs.making.step_refusal.Statement.{statement}
 use Rattle.table.proofs.making.step_refusal.Tie as tie
 
 -- the checks that passed
-whole : (c : tie.Else-not-is_whole) → whole_table c.before.before.before.args.t ≡ true
-whole c = sym c.before.is_whole.ensures ∙ not-false _ c.if-not-is_whole.false-raw
+whole : (c : tie.Else-not-is_whole) → whole_table c.args.t ≡ true
+whole c = sym c.is_whole.ensures ∙ not-false _ c.if-not-is_whole.false-raw
 
 enough : (c : tie.Else-floats-storage_need) →
-    let a = c.before.before.before.before.before.args in
+    let a = c.args in
     storage_short a.t.config-1 a.floats ≡ false
-enough c = le-ltb _ _ (rw c.before.storage_need.ensures at c.if-floats-storage_need.false)
+enough c = le-ltb _ _ (rw c.storage_need.ensures at c.if-floats-storage_need.false)
 
 is_whole-requires : tie.Need-is_whole-requires
 is_whole-requires c κs = search rules
 
 returns-then-not-is_whole : tie.Need-returns-then-not-is_whole
 unfolding first_due
-returns-then-not-is_whole c = rw (sym c.before.is_whole.ensures ∙ not-true _ c.if-not-is_whole.true-raw)
+returns-then-not-is_whole c = rw (sym c.is_whole.ensures ∙ not-true _ c.if-not-is_whole.true-raw)
 
 storage_need-requires : tie.Need-storage_need-requires
-storage_need-requires c κs = (whole_facts c.before.before.before.args.t (whole c)).in-range
+storage_need-requires c κs = (whole_facts c.args.t (whole c)).in-range
 
 returns-then-floats-storage_need : tie.Need-returns-then-floats-storage_need
 unfolding first_due
-returns-then-floats-storage_need c = rw (whole c.before.before, lt-ltb _ _ (rw c.before.storage_need.ensures at c.if-floats-storage_need.true))
+returns-then-floats-storage_need c = rw (whole c.before.before, lt-ltb _ _ (rw c.storage_need.ensures at c.if-floats-storage_need.true))
 
 is_next-requires : tie.Need-is_next-requires
 is_next-requires c κs = search rules
 
 returns-then-not-is_next : tie.Need-returns-then-not-is_next
 unfolding first_due
-returns-then-not-is_next c = rw (whole c.before.before.before.before, enough c.before.before, sym c.before.is_next.ensures ∙ not-true _ c.if-not-is_next.true-raw)
+returns-then-not-is_next c = rw (whole c.before.before.before.before, enough c.before.before, sym c.is_next.ensures ∙ not-true _ c.if-not-is_next.true-raw)
 
 returns : tie.Need-returns
 unfolding first_due
-returns c = rw (whole c.before.before.before.before, enough c.before.before, sym c.before.is_next.ensures ∙ not-false _ c.if-not-is_next.false-raw)
+returns c = rw (whole c.before.before.before.before, enough c.before.before, sym c.is_next.ensures ∙ not-false _ c.if-not-is_next.false-raw)
 
 pub step_refusal_spec : {M : Type 1} → statement M
 step_refusal_spec =

@@ -13,12 +13,12 @@ layout_of-at-requires c κs = sizes_of c.args.config c.requires
 overflow_mul-result : tie.Need-overflow_mul-result
 overflow_mul-result c =
     let s = c.before.before.before in
-    let size : c.before.before.layout_of-at.result.size ≤ 864 = rw c.before.before.layout_of-at.ensures (block-most s.args.config (sizes_of s.args.config s.requires)) in
+    let size : c.layout_of-at.result.size ≤ 864 = rw c.layout_of-at.ensures (block-most s.args.config (sizes_of s.args.config s.requires)) in
     record { fits = omega (arith, mul-le-mul (settings_facts s.args.config s.requires).capacity.1 size) }
 
 returns : tie.Need-returns
 unfolding storage_need
-returns c = rw c.before.before.layout_of-at.ensures
+returns c = rw c.layout_of-at.ensures
 
 pub storage_need_spec : {M : Type 1} → statement M
 storage_need_spec = tie.close (tie.spec layout_of-at-requires overflow_mul-result returns)

@@ -47,15 +47,15 @@ returns c =
     let between = tests.before.before.before.before.before in
     rw (
       c.both-6.ensures,
-      c.before.both-5.ensures,
-      c.before.before.both-4.ensures,
-      c.before.before.before.both-3.ensures,
-      c.before.before.before.before.both-2.ensures,
-      c.before.before.before.before.before.both.ensures,
+      c.both-5.ensures,
+      c.both-4.ensures,
+      c.both-3.ensures,
+      c.both-2.ensures,
+      c.both.ensures,
       tests.is_counter_between-reid.ensures,
       between.is_between-capacity.ensures,
-      between.before.is_between-dims.ensures,
-      between.before.before.is_between-points.ensures,
+      between.is_between-dims.ensures,
+      between.is_between-points.ensures,
       to_z-of_z (maximum-fits between.before.before.before),
     )
 

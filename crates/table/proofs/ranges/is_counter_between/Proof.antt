@@ -28,7 +28,7 @@ returns-in-Present c =
       to_z-of_z s.fits.low,
       to_z-of_z s.fits.high,
       to_z-of_z (record { sfits = told.known_told-1.given.0.1 }),
-      told.before.counter-1.given.1,
+      told.counter-1.given.1,
     )
 
 pub is_counter_between_spec : {M : Type 1} → statement M

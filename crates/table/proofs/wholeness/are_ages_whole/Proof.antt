@@ -46,12 +46,12 @@ is_between_signed-requires c κs = search rules
 
 -- a signed number of an entry is what an i32 holds of it
 age-fits : (c : tie.After-struct_told-1 invariant-loop-i decreases-loop-i)
-    → SFits w32 (get_or c.before.before.before.before.args.past c.before.before.before.loop-i.i none).age
+    → SFits w32 (get_or c.args.past c.loop-i.i none).age
 age-fits c = search rules
 
 looked : (c : tie.After-is_between_signed invariant-loop-i decreases-loop-i) →
     let at = c.before.before.before.before in
-    outside (to_z w32 (of_z w32 at.before.args.frames)) (get_or at.before.args.past at.loop-i.i none) ≡ not c.is_between_signed.result
+    outside (to_z w32 (of_z w32 at.args.frames)) (get_or at.args.past at.loop-i.i none) ≡ not c.is_between_signed.result
 looked c = rw (c.is_between_signed.ensures, to_z-of_z (age-fits c.before))
 
 returns-then-not-is_between_signed : tie.Need-returns-then-not-is_between_signed invariant-loop-i decreases-loop-i
@@ -59,7 +59,7 @@ unfolding ages_whole
 returns-then-not-is_between_signed c =
     let in-loop = c.before.before.before.before in
     let at = in-loop.before in
-    rw (to_z-of_z at.before.ranges.frames) at
+    rw (to_z-of_z at.ranges.frames) at
     (stops _ _ _ at.loop-i.i (room at.before) at.loop-i.invariant.1 none in-loop.loop-i-test.true (looked c.before ∙ c.if-not-is_between_signed.true-raw))
 
 overflow_add-i : tie.Need-overflow_add-i invariant-loop-i decreases-loop-i
@@ -80,7 +80,7 @@ returns : tie.Need-returns invariant-loop-i decreases-loop-i
 unfolding ages_whole
 returns c =
     let at = c.before in
-    rw (to_z-of_z at.before.ranges.frames) at (ends _ _ _ at.loop-i.i (room at.before) at.loop-i.invariant.1 c.loop-i-test.false)
+    rw (to_z-of_z at.ranges.frames) at (ends _ _ _ at.loop-i.i (room at.before) at.loop-i.invariant.1 c.loop-i-test.false)
 
 pub are_ages_whole_spec : {M : Type 1} → statement M
 are_ages_whole_spec =

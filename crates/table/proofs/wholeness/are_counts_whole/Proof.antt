@@ -35,11 +35,11 @@ returns c =
     let first = tests.before.before.before in
     rw (
       c.both-3.ensures,
-      c.before.both-2.ensures,
-      c.before.before.both.ensures,
+      c.both-2.ensures,
+      c.both.ensures,
       tests.both-names.ensures,
       first.both-permanent.ensures,
-      le-leb _ 2000000000 first.before.before.before.before.before.before.before.if-n-gt2000000000.false,
+      le-leb _ 2000000000 first.if-n-gt2000000000.false,
     )
 
 pub are_counts_whole_spec : {M : Type 1} → statement M

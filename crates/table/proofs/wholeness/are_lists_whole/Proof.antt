@@ -37,14 +37,14 @@ returns c =
     let asked = c.before.before.before.before in
     rw (
       c.both-4.ensures,
-      c.before.both-3.ensures,
-      c.before.before.both-2.ensures,
-      c.before.before.before.both.ensures,
+      c.both-3.ensures,
+      c.both-2.ensures,
+      c.both.ensures,
       asked.are_candidates_whole-e.ensures,
-      asked.before.is_list_whole-d.ensures,
-      asked.before.before.is_list_whole-c.ensures,
-      asked.before.before.before.is_list_whole-b.ensures,
-      asked.before.before.before.before.is_list_whole-a.ensures,
+      asked.is_list_whole-d.ensures,
+      asked.is_list_whole-c.ensures,
+      asked.is_list_whole-b.ensures,
+      asked.is_list_whole-a.ensures,
     )
 
 pub are_lists_whole_spec : {M : Type 1} → statement M

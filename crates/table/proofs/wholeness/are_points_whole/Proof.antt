@@ -37,7 +37,7 @@ returns-then-counters-i-gt10000 : tie.Need-returns-then-counters-i-gt10000 invar
 unfolding points_whole
 returns-then-counters-i-gt10000 c =
     let at = c.before.before in
-    stops above _ _ at.loop-i.i (room at.before) at.loop-i.invariant.1 0 c.before.loop-i-test.true (lt-ltb 10000 _ c.if-counters-i-gt10000.true)
+    stops above _ _ at.loop-i.i (room at.before) at.loop-i.invariant.1 0 c.loop-i-test.true (lt-ltb 10000 _ c.if-counters-i-gt10000.true)
 
 overflow_add-i : tie.Need-overflow_add-i invariant-loop-i decreases-loop-i
 overflow_add-i c = search rules
@@ -49,12 +49,12 @@ loop-i-preserved : tie.Need-loop-i-preserved invariant-loop-i decreases-loop-i
 loop-i-preserved c =
     let at = c.before.before in (
       omega arith,
-      passes above _ _ at.loop-i.i (room at.before) at.loop-i.invariant.1 0 c.before.loop-i-test.true (le-ltb 10000 _ c.if-counters-i-gt10000.false),
+      passes above _ _ at.loop-i.i (room at.before) at.loop-i.invariant.1 0 c.loop-i-test.true (le-ltb 10000 _ c.if-counters-i-gt10000.false),
     )
 
 returns : tie.Need-returns invariant-loop-i decreases-loop-i
 unfolding points_whole
-returns c = ends above _ _ c.before.loop-i.i (room c.before.before) c.before.loop-i.invariant.1 c.loop-i-test.false
+returns c = ends above _ _ c.loop-i.i (room c.before.before) c.loop-i.invariant.1 c.loop-i-test.false
 
 pub are_points_whole_spec : {M : Type 1} → statement M
 are_points_whole_spec =

@@ -36,7 +36,7 @@ unfolding records_whole
 returns-then-not-is_record_whole c =
     let in-loop = c.before.before.before in
     let at = in-loop.before in
-    stops _ _ _ at.loop-i.i (room at.before) at.loop-i.invariant.1 _ in-loop.loop-i-test.true (ap not (sym c.before.is_record_whole.ensures) ∙ c.if-not-is_record_whole.true-raw)
+    stops _ _ _ at.loop-i.i (room at.before) at.loop-i.invariant.1 _ in-loop.loop-i-test.true (ap not (sym c.is_record_whole.ensures) ∙ c.if-not-is_record_whole.true-raw)
 
 overflow_add-i : tie.Need-overflow_add-i invariant-loop-i decreases-loop-i
 overflow_add-i c = search rules
@@ -49,7 +49,7 @@ loop-i-preserved c =
     let in-loop = c.before.before.before in
     let at = in-loop.before in (
       omega arith,
-      passes _ _ _ at.loop-i.i (room at.before) at.loop-i.invariant.1 _ in-loop.loop-i-test.true (ap not (sym c.before.is_record_whole.ensures) ∙ c.if-not-is_record_whole.false-raw),
+      passes _ _ _ at.loop-i.i (room at.before) at.loop-i.invariant.1 _ in-loop.loop-i-test.true (ap not (sym c.is_record_whole.ensures) ∙ c.if-not-is_record_whole.false-raw),
     )
 
 returns : tie.Need-returns invariant-loop-i decreases-loop-i

@@ -22,10 +22,10 @@ returns : tie.Need-returns
 returns c =
     rw (
       c.both.ensures,
-      c.before.are_settings_in_range.ensures,
-      c.before.before.both-delay.ensures,
-      c.before.before.before.is_delay_too_long.ensures,
-      c.before.before.before.before.is_delay_negative.ensures,
+      c.are_settings_in_range.ensures,
+      c.both-delay.ensures,
+      c.is_delay_too_long.ensures,
+      c.is_delay_negative.ensures,
     )
 
 pub are_settings_whole_spec : {M : Type 1} → statement M

@@ -16,7 +16,7 @@ use Rattle.table.proofs.wholeness.is_record_whole.Tie as tie
 returns-then-config-n : tie.Need-returns-then-config-n
 unfolding record_whole
 returns-then-config-n c =
-    let hit = c.before.before.before.before.before.before.args.o.life-1.hit_counter in
+    let hit = c.args.o.life-1.hit_counter in
     rw (
       lt-leb _ _ c.if-config-n.true,
       and-false,
@@ -75,14 +75,14 @@ returns c =
     let start = asked.before.before.before.before.before.before in
     rw (
       c.both-5.ensures,
-      c.before.both-4.ensures,
-      c.before.before.both-3.ensures,
-      c.before.before.before.both-2.ensures,
-      c.before.before.before.before.both.ensures,
+      c.both-4.ensures,
+      c.both-3.ensures,
+      c.both-2.ensures,
+      c.both.ensures,
       ages.are_ages_whole-ages.ensures,
-      ages.before.both-period.ensures,
+      ages.both-period.ensures,
       counter.is_counter_between-counter.ensures,
-      counter.before.are_points_whole-points.ensures,
+      counter.are_points_whole-points.ensures,
       hit.is_between_signed-hit.ensures,
       le-leb _ _ asked.if-config-n.false,
       to_z-of_z (hit-fits start),

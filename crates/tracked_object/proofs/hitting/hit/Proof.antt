@@ -20,18 +20,18 @@ shape_of-s : tie.Need-shape_of-s
 shape_of-s c = search rules
 
 issued : (c : tie.After-both)
-    → let a = c.before.before.before.before.before.before.before.before.before.before.before.before.args in
+    → let a = c.args in
     c.both.result ≡ promotes a.period a.config.hit_counter_max a.config.initialization_delay a.o.life
 unfolding object_hit
 issued c =
-    let a = c.before.before.before.before.before.before.before.before.before.before.before.before.args in
+    let a = c.args in
     c.both.ensures
-    ∙ rw c.before.before.before.before.before.before.before.hit_record-next.ensures
+    ∙ rw c.hit_record-next.ensures
     (issued-hit a.period a.config.hit_counter_max a.config.initialization_delay a.config.reid_hit_counter_max a.next_id a.o.life)
 
 returns : tie.Need-returns
 unfolding object_hit
-returns c = (rw (issued c, c.before.before.before.before.before.before.before.hit_record-next.ensures), c.before.before.before.before.hit_block.ensures)
+returns c = (rw (issued c, c.hit_record-next.ensures), c.hit_block.ensures)
 
 pub hit_spec : {M : Type 1} → statement M
 hit_spec =

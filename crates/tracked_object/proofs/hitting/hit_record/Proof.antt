@@ -18,20 +18,20 @@ hit_life-life-requires : tie.Need-hit_life-life-requires
 hit_life-life-requires c κs = search rules
 
 next_count-requires : tie.Need-next_count-requires
-next_count-requires c κs = c.before.before.before.before.before.before.before.before.before.before.before.requires.1.history
+next_count-requires c κs = c.requires.1.history
 
 -- the two signed settings are what an i32 holds of them
 returns : tie.Need-returns
 unfolding object_hit
 returns c =
-    let config = c.before.before.before.before.before.before.before.before.before.before.before.before.args.config in
-    let told = c.before.before.before.before.struct_told-1.given in
+    let config = c.args.config in
+    let told = c.struct_told-1.given in
     rw (
-      c.before.before.before.before.before.before.before.before.before.hit_marks-marks.ensures,
+      c.hit_marks-marks.ensures,
       c.next_count.ensures,
-      c.before.before.before.before.before.before.before.hit_points-counters.ensures,
-      c.before.before.before.before.before.before.set_flags-flags.ensures,
-      c.before.before.hit_life-life.ensures,
+      c.hit_points-counters.ensures,
+      c.set_flags-flags.ensures,
+      c.hit_life-life.ensures,
       to_z-of_z {z = config.hit_counter_max} (record { sfits = told.1.1.1.1.0.1 }),
       to_z-of_z {z = config.initialization_delay} (record { sfits = told.1.1.1.1.1.0.1 }),
     )

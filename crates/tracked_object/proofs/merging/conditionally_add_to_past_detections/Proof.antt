@@ -22,25 +22,25 @@ takes_entry-requires c κs = search rules
 
 returns-then-not-takes_entry : tie.Need-returns-then-not-takes_entry
 unfolding conditionally_added
-returns-then-not-takes_entry c = rw (sym c.before.takes_entry.ensures ∙ not-true c.before.takes_entry.result c.if-not-takes_entry.true-raw)
+returns-then-not-takes_entry c = rw (sym c.takes_entry.ensures ∙ not-true c.takes_entry.result c.if-not-takes_entry.true-raw)
 
 took : (c : tie.Else-not-takes_entry)
-    → takes c.before.before.before.before.args.config c.before.before.before.before.args.age c.before.before.before.before.args.marks.past c.before.before.before.before.args.marks.count ≡ true
-took c = sym c.before.takes_entry.ensures ∙ not-false c.before.takes_entry.result c.if-not-takes_entry.false-raw
+    → takes c.args.config c.args.age c.args.marks.past c.args.marks.count ≡ true
+took c = sym c.takes_entry.ensures ∙ not-false c.takes_entry.result c.if-not-takes_entry.false-raw
 
-some : (c : tie.Else-not-takes_entry) → 0 < c.before.before.before.before.args.config.past_detections_length
-some c = some_of c.before.before.before.before.args.config.past_detections_length _ (took c)
+some : (c : tie.Else-not-takes_entry) → 0 < c.args.config.past_detections_length
+some c = some_of c.args.config.past_detections_length _ (took c)
 
 layout_of-at-requires : tie.Need-layout_of-at-requires
 layout_of-at-requires c κs = search rules
 
 make_room-requires : tie.Need-make_room-requires
-make_room-requires c κs = (rw c.before.before.layout_of-at.ensures (omega arith), some c.before.before.before)
+make_room-requires c κs = (rw c.layout_of-at.ensures (omega arith), some c.before.before.before)
 
 place_of-place-requires : tie.Need-place_of-place-requires
 place_of-place-requires c κs =
     let s = c.before.before.before.before.before.before.before.before.before.before in (
-      rw c.before.before.before.before.before.layout_of-at.ensures (omega (arith, block-most s.args.config s.requires.0)),
+      rw c.layout_of-at.ensures (omega (arith, block-most s.args.config s.requires.0)),
       some c.before.before.before.before.before.before,
       search rules,
     )
@@ -48,8 +48,8 @@ place_of-place-requires c κs =
 write_at-requires : tie.Need-write_at-requires
 write_at-requires c κs =
     let e = c.before.before.before.before.before.before.before.before in
-    let a = e.before.before.before.before.args in
-    rw (c.before.place_of-place.ensures, c.before.before.before.before.before.before.before.layout_of-at.ensures)
+    let a = e.args in
+    rw (c.place_of-place.ensures, c.layout_of-at.ensures)
     (omega (arith, inside a.config.past_detections_length (width a.config) a.marks.count (some e)))
 
 overflow_cast-mark : tie.Need-overflow_cast-mark
@@ -71,13 +71,13 @@ returns c =
     let e = c.before.before.before.before.before.before.before.before.before.before.before.before.before in
     rw (
       took e,
-      c.before.push_mark-past.ensures,
+      c.push_mark-past.ensures,
       c.next_count.ensures,
-      c.before.before.before.before.write_at.ensures,
-      c.before.before.before.before.before.before.place_of-place.ensures,
-      c.before.before.before.before.before.before.before.before.before.make_room.ensures,
-      c.before.before.before.before.before.before.before.before.before.before.before.before.layout_of-at.ensures,
-      to_z-of_z {z = pos e.before.before.before.before.args.age} (overflow_cast-mark c.before.before),
+      c.write_at.ensures,
+      c.place_of-place.ensures,
+      c.make_room.ensures,
+      c.layout_of-at.ensures,
+      to_z-of_z {z = pos e.args.age} (overflow_cast-mark c.before.before),
     )
 
 pub conditionally_add_to_past_detections_spec : {M : Type 1} → statement M

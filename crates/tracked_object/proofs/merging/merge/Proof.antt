@@ -10,7 +10,7 @@ take_over-requires c κs = search rules
 
 merge_past-marks-requires : tie.Need-merge_past-marks-requires
 merge_past-marks-requires c κs =
-    let p = c.before.before.before.before.before.before.before.before.before.before.requires in
+    let p = c.requires in
     (p.0, search rules, p.1.ages, search rules, search rules, search rules, search rules)
 
 merge_life-life-requires : tie.Need-merge_life-life-requires
@@ -22,7 +22,7 @@ shape_of-s c = search rules
 returns : tie.Need-returns
 unfolding object_merged
 returns c =
-    let m = rw c.before.before.before.before.before.before.before.before.before.take_over.ensures at c.before.before.before.before.merge_past-marks.ensures in
+    let m = rw c.take_over.ensures at c.merge_past-marks.ensures in
     (rw (c.merge_life-life.ensures, ← m), ap (λ (h : History). h.floats) m)
 
 pub merge_spec : {M : Type 1} → statement M

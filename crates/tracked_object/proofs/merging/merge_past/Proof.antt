@@ -65,13 +65,13 @@ kept c =
 
 -- entry i lies in the candidate's block
 room : (c : tie.In-loop-i invariant-loop-i decreases-loop-i)
-    → (c.before.before.before.layout_of-at.result.past_at + c.before.loop-i.i * c.before.before.before.layout_of-at.result.width + c.before.before.before.layout_of-at.result.width ≤ length (given c.before).args.from.now)
+    → (c.layout_of-at.result.past_at + c.loop-i.i * c.layout_of-at.result.width + c.layout_of-at.result.width ≤ length (given c.before).args.from.now)
     × (length (given c.before).args.from.now ≤ 864)
 room c =
     let a = (given c.before).args in
     let p = (given c.before).pre in
-    let made = c.before.before.before.layout_of-at in
-    (inside a.config made.result made.ensures a.from.now c.before.loop-i.i p.5 (omega arith), omega (arith, block-most a.config p.0))
+    let made = c.layout_of-at in
+    (inside a.config made.result made.ensures a.from.now c.loop-i.i p.5 (omega arith), omega (arith, block-most a.config p.0))
 
 overflow_mul-start : tie.Need-overflow_mul-start invariant-loop-i decreases-loop-i
 overflow_mul-start c = let h = room c in record { fits = omega arith }
@@ -110,7 +110,7 @@ conditionally_add_to_past_detections-marks-requires c κs =
     let l = c.before.before.before.before.before in
     let a = (given l).args in
     let p = (given l).requires in
-    let made = l.before.before.layout_of-at in
+    let made = l.layout_of-at in
     let whole = length-entry a.config a.from.now l.loop-i.i p.5 (omega arith) in
     (p.0, (kept l).counted, (kept l).aged, p.3, rw (lent a.config made.result made.ensures a.from.now l.loop-i.i) whole, (kept l).long)
 
@@ -124,11 +124,11 @@ loop-i-preserved : tie.Need-loop-i-preserved invariant-loop-i decreases-loop-i
 loop-i-preserved c =
     let t = c.before.before.before.before.before.before.before in
     let a = (given t.before).args in
-    let loop = t.before.loop-i in
+    let loop = t.loop-i in
     let eight : length a.candidate.past ≡ 8 = simp length-map at (given t.before).good.1.1.1.1.0.1.1.0.1.0.1 in
     let mark = get_or-any a.candidate.past loop.i record { age = pos 0; has_scores = false } unaged (omega (arith, t.loop-i-test.true)) in
-    let made = t.before.before.before.layout_of-at in
-    let turned = rw (lent a.config made.result made.ensures a.from.now loop.i, mark) at c.before.before.conditionally_add_to_past_detections-marks.ensures in
+    let made = t.layout_of-at in
+    let turned = rw (lent a.config made.result made.ensures a.from.now loop.i, mark) at c.conditionally_add_to_past_detections-marks.ensures in
     (search rules, turns_next (turn a.config a.age a.candidate.past a.from.now) loop.i _ turned loop.invariant.1)
 
 shape_of-s : tie.Need-shape_of-s invariant-loop-i decreases-loop-i
@@ -137,8 +137,8 @@ shape_of-s c = (kept c.before).long ∙ sym (given c.before).pre.6
 returns : tie.Need-returns invariant-loop-i decreases-loop-i
 unfolding history_merged
 returns c =
-    let e : c.before.loop-i.i ≡ (given c.before).args.candidate.past_count = omega arith in
-    rw e at c.before.loop-i.invariant.1
+    let e : c.loop-i.i ≡ (given c.before).args.candidate.past_count = omega arith in
+    rw e at c.loop-i.invariant.1
 
 pub merge_past_spec : {M : Type 1} → statement M
 merge_past_spec =

@@ -14,18 +14,18 @@ layout_of-at-requires c κs = search rules
 overflow_mul-at : tie.Need-overflow_mul-at
 overflow_mul-at c =
     let s = c.before.before.before.before.before in
-    rw c.before.before.layout_of-at.ensures record { fits = omega (arith, coords-most s.args.config s.requires.0) }
+    rw c.layout_of-at.ensures record { fits = omega (arith, coords-most s.args.config s.requires.0) }
 
 write_at-requires : tie.Need-write_at-requires
-write_at-requires c κs = rw c.before.before.layout_of-at.ensures (omega arith)
+write_at-requires c κs = rw c.layout_of-at.ensures (omega arith)
 
 offset_bounds-from-last_at : tie.Need-offset_bounds-from-last_at
 offset_bounds-from-last_at c =
     let s = c.before.before.before.before.before.before.before.before.before in
-    rw c.before.before.before.before.before.before.layout_of-at.ensures record { fits = omega (arith, coords-most s.args.config s.requires.0) }
+    rw c.layout_of-at.ensures record { fits = omega (arith, coords-most s.args.config s.requires.0) }
 
 slice_bounds-write_at-count : tie.Need-slice_bounds-write_at-count
-slice_bounds-write_at-count c = rw c.before.before.before.before.before.before.layout_of-at.ensures (omega arith)
+slice_bounds-write_at-count c = rw c.layout_of-at.ensures (omega arith)
 
 slice_bounds-write_at-start : tie.Need-slice_bounds-write_at-start
 slice_bounds-write_at-start c = slice_bounds-write_at-count c
@@ -37,9 +37,9 @@ write_at-requires-2 : tie.Need-write_at-requires-2
 write_at-requires-2 c κs =
     let s = c.before.before.before.before.before.before.before.before.before.before in
     let from = s.args.from.now in
-    let n = c.before.before.before.before.write_at.auto.0 in
+    let n = c.write_at.auto.0 in
     let d = length-drop (last_place s.args.config) from in
-    rw c.before.before.before.before.before.before.before.layout_of-at.ensures
+    rw c.layout_of-at.ensures
     (omega arith, rw (part_to_end from (last_place s.args.config)) (omega arith))
 
 shape_of-s : tie.Need-shape_of-s
@@ -49,9 +49,9 @@ returns : tie.Need-returns
 returns c =
     let s = c.before.before.before.before.before.before.before.before.before.before.before.before.before in
     rw (
-      c.before.before.write_at-2.ensures,
-      c.before.before.before.before.before.before.before.write_at.ensures,
-      c.before.before.before.before.before.before.before.before.before.before.layout_of-at.ensures,
+      c.write_at-2.ensures,
+      c.write_at.ensures,
+      c.layout_of-at.ensures,
       part_to_end s.args.from.now (last_place s.args.config),
     )
 

@@ -18,7 +18,7 @@ returns-then-most-eq0 c = rw c.if-most-eq0.true
 
 returns-then-marks-most : tie.Need-returns-then-marks-most
 returns-then-marks-most c =
-    let a = c.before.before.before.args in
+    let a = c.args in
     rw (lt-ltb 0 a.config.past_detections_length (omega arith), lt-ltb a.marks.count a.config.past_detections_length (omega arith))
 
 bounds-past-0 : tie.Need-bounds-past-0
@@ -41,7 +41,7 @@ returns c =
     let s = c.before.before.before.before.before.before.before in
     let most = s.args.config.past_detections_length in
     rw (lt-ltb 0 most (omega arith), le-ltb s.args.marks.count most (omega arith))
-    (rw (to_z-of_z (record { sfits = c.before.struct_told-1.given.0.1 }), oldest s) at c.is_due.ensures)
+    (rw (to_z-of_z (record { sfits = c.struct_told-1.given.0.1 }), oldest s) at c.is_due.ensures)
 
 pub takes_entry_spec : {M : Type 1} → statement M
 takes_entry_spec =

@@ -14,12 +14,12 @@ layout_of-at-requires c κs = search rules
 make-requires : tie.Need-make-requires
 make-requires c κs =
     let s = c.before.before.before.before.before.before in
-    rw c.before.before.layout_of-at.ensures (omega (arith, filter_inside s.args.config), omega arith)
+    rw c.layout_of-at.ensures (omega (arith, filter_inside s.args.config), omega arith)
 
 write_detection-requires : tie.Need-write_detection-requires
 write_detection-requires c κs =
     let s = c.before.before.before.before.before.before.before.before.before.before in
-    rw c.before.before.before.before.before.before.layout_of-at.ensures (omega (arith, last_inside s.args.config), omega arith, omega arith)
+    rw c.layout_of-at.ensures (omega (arith, last_inside s.args.config), omega arith, omega arith)
 
 open_life-life-requires : tie.Need-open_life-life-requires
 open_life-life-requires c κs = search rules
@@ -38,17 +38,17 @@ shape_of-s c = search rules
 returns : tie.Need-returns
 unfolding object_opened block_opened
 returns c =
-    let a = c.before.before.before.before.before.before.before.before.before.before.before.before.before.before.before.before.before.before.args in
-    let told = c.before.before.before.before.struct_told-1.given in
+    let a = c.args in
+    let told = c.struct_told-1.given in
     let stored = c.before.before.before.before.before.before.before in (
       rw (
-        c.before.before.opened_counter-counter.ensures,
-        c.before.set_flags-flags.ensures,
-        c.before.before.before.open_life-life.ensures,
+        c.opened_counter-counter.ensures,
+        c.set_flags-flags.ensures,
+        c.open_life-life.ensures,
         to_z-of_z {z = a.config.initialization_delay} (record { sfits = told.1.1.1.1.1.0.1 }),
         issued-opened a.period a.config.initialization_delay a.next_id,
       ),
-      rw (stored.write_detection.ensures, stored.before.before.before.before.make.ensures, stored.before.before.before.before.before.before.before.layout_of-at.ensures),
+      rw (stored.write_detection.ensures, stored.make.ensures, stored.layout_of-at.ensures),
     )
 
 pub open_spec : {M : Type 1} → statement M

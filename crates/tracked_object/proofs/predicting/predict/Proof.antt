@@ -11,7 +11,7 @@ layout_of-at-requires c κs = search rules
 
 predict-requires : tie.Need-predict-requires
 predict-requires c κs =
-    rw c.before.layout_of-at.ensures (omega (arith, filter_inside c.before.before.before.args.config))
+    rw c.layout_of-at.ensures (omega (arith, filter_inside c.args.config))
 
 fall_points-counters-requires : tie.Need-fall_points-counters-requires
 fall_points-counters-requires c κs = search rules
@@ -26,8 +26,8 @@ returns : tie.Need-returns
 unfolding object_predicted
 returns c =
     let filter = c.before.before.before.before.before.before in (
-      rw (c.before.fall_points-counters.ensures, c.predict_life-life.ensures),
-      rw (filter.predict.ensures, filter.before.before.layout_of-at.ensures),
+      rw (c.fall_points-counters.ensures, c.predict_life-life.ensures),
+      rw (filter.predict.ensures, filter.layout_of-at.ensures),
     )
 
 pub predict_spec : {M : Type 1} → statement M

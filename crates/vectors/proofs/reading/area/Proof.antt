@@ -13,10 +13,10 @@ returns-2 : tie.Need-returns-2
 returns-2 c = search rules
 
 mul-result : tie.Need-overflow-mul-result
-mul-result c = record { fits = omega (arith, small c.before.before.args.a c.before.before.args.b (search rules) (search rules)) }
+mul-result c = record { fits = omega (arith, small c.args.a c.args.b (search rules) (search rules)) }
 
 returns-3 : tie.Need-returns-3
-returns-3 c = small c.before.before.args.a c.before.before.args.b (search rules) (search rules)
+returns-3 c = small c.args.a c.args.b (search rules) (search rules)
 
 pub area-spec : {M : Type 1} → statement M
 area-spec = tie.close (tie.spec returns returns-2 mul-result returns-3)
