@@ -32,7 +32,7 @@ loop-j-smaller c = search rules
 
 loop-j-preserved : tie.Need-loop-j-preserved invariant-loop-j decreases-loop-j
 loop-j-preserved c =
-    let s = c.before.before.before.before.before.before.before in
+    let s = c in
     let loop = c.loop-j in
     let call = c.predict_at in (
       search rules,

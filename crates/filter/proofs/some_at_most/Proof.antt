@@ -28,7 +28,7 @@ bounds-scores-i c = search rules
 
 returns-then-scores-i : tie.Need-returns-then-scores-i invariant-loop-i decreases-loop-i
 returns-then-scores-i c =
-    let s = c.before.before.before.before in
+    let s = c in
     let loop = c.loop-i in
     sym (loop.invariant.1 ∙ any_here (λ x. le x s.args.threshold) s.args.scores.now loop.i nan (omega arith) c.if-scores-i.true)
 
@@ -40,7 +40,7 @@ loop-i-smaller c = search rules
 
 loop-i-preserved : tie.Need-loop-i-preserved invariant-loop-i decreases-loop-i
 loop-i-preserved c =
-    let s = c.before.before.before.before in
+    let s = c in
     let loop = c.loop-i in (
       omega arith,
       rw add-one (loop.invariant.1 ∙ any_on (λ x. le x s.args.threshold) s.args.scores.now loop.i nan (omega arith) c.if-scores-i.false),
@@ -48,7 +48,7 @@ loop-i-preserved c =
 
 returns : tie.Need-returns invariant-loop-i decreases-loop-i
 returns c =
-    let s = c.before.before in
+    let s = c in
     let loop = c.loop-i in
     sym (loop.invariant.1 ∙ any_end (λ x. le x s.args.threshold) s.args.scores.now loop.i (omega arith))
 

@@ -33,7 +33,7 @@ nonzero_div-j c = search rules
 inside : (c : tie.In-loop-j invariant-loop-j decreases-loop-j)
     → c.loop-j.j / c.args.k < length c.args.scores.now
 inside c =
-    let s = c.before.before.before.before.before.before in
+    let s = c in
     (div-lt_iff_lt-mul {k = s.args.k} {x = c.loop-j.j} {y = length s.args.scores.now} s.requires.0).1 (omega arith)
 
 offset_bounds-scores-j : tie.Need-offset_bounds-scores-j invariant-loop-j decreases-loop-j
@@ -62,7 +62,7 @@ loop-j-smaller c = search rules
 
 loop-j-preserved : tie.Need-loop-j-preserved invariant-loop-j decreases-loop-j
 loop-j-preserved c =
-    let s = c.before.before.before.before.before.before.before.before.before.before.before.before.before in
+    let s = c in
     let mask = c.needs_mask-mask.result in
     let loop = c.loop-j in
     let call = c.update_at in (
@@ -81,7 +81,7 @@ shape_of-block c = search rules
 
 returns : tie.Need-returns invariant-loop-j decreases-loop-j
 returns c =
-    let s = c.before.before.before.before.before.before in
+    let s = c in
     let e : c.loop-j.j ≡ s.args.n = omega arith in
     (rw e at c.loop-j.invariant.2)
     ∙ ap

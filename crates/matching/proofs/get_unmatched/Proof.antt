@@ -55,7 +55,7 @@ loop-i-smaller c = search rules
 
 loop-i-preserved : tie.Need-loop-i-preserved invariant-loop-i decreases-loop-i
 loop-i-preserved c =
-    let s = c.before.before.before.before.before in
+    let s = c in
     let loop = c.loop-i in
     let ms = take s.args.n s.args.matched in
     let p : ℕ → Bool = λ i. not (holds i ms) in

@@ -45,7 +45,7 @@ conditionally-add-to-past-detections-requires :
     tie.Need-conditionally-add-to-past-detections-requires
 unfolding aged
 conditionally-add-to-past-detections-requires c κs =
-    let s = c.before.before.before in
+    let s = c in
     let e = c.small-config.ensures in (
       record {
         some_points = omega arith;

@@ -43,7 +43,7 @@ stands_in-requires c κs = search rules
 
 -- what the call says of the record that the code read
 answered : (c : tie.After-stands_in invariant-loop-i decreases-loop-i)
-    → let s = c.before.before.before.before in
+    → let s = c in
     c.stands_in.result ≡ stands s.args.config s.args.sort s.args.records c.loop-i.i
 answered c =
     let s = c.before.before.before.before in

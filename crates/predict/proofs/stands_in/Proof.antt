@@ -24,7 +24,7 @@ enum_told-in-Dead c = search rules
 
 returns-in-Alive : tie.Need-returns-in-Alive
 returns-in-Alive c =
-    let told = c.before.before in
+    let told = c in
     rw (c.both.ensures, to_z-of_z (record { sfits = told.struct_told-in-Alive-1.given.1.0.1 }), told.enum_told-1.given.1)
 
 returns-in-Initializing : tie.Need-returns-in-Initializing
@@ -32,7 +32,7 @@ returns-in-Initializing c = rw c.enum_told-in-Initializing-1.given.1
 
 returns-in-Dead : tie.Need-returns-in-Dead
 returns-in-Dead c =
-    let dead = c.before.before in
+    let dead = c in
     rw (
       dead.both-dead.ensures,
       to_z-of_z (record { sfits = dead.struct_told-1.given.1.0.1 }),

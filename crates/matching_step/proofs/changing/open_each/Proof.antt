@@ -46,7 +46,7 @@ ready l =
 loop-i-init : tie.Need-loop-i-init invariant-loop-i decreases-loop-i
 unfolding through
 loop-i-init c =
-    let s = c.before.before.before.before.before in
+    let s = c in
     let all : length s.args.records ≡ 64 = s.well_formed.1.0.1.0.1 in
     (omega arith, put_found s.args.config s.args.records s.args.s.now s.args.counts (omega arith))
 

@@ -54,7 +54,7 @@ chosen c =
 loop-i-init : tie.Need-loop-i-init invariant-loop-i decreases-loop-i
 unfolding below
 loop-i-init c =
-    let s = c.before.before in
+    let s = c in
     (s.requires.6 ∙ ap (filled 32 no_pair) (sym (append-nil (take s.args.start s.args.pairs))), omega arith)
 
 offset_bounds-rows-i : tie.Need-offset_bounds-rows-i invariant-loop-i decreases-loop-i

@@ -14,7 +14,7 @@ candidates-candidates-requires c κs = search rules
 
 returns : tie.Need-returns
 returns c =
-    let old = c.before in
+    let old = c in
     rw (old.no_numbers-none.ensures, old.old_ones-old.ensures, c.candidates-candidates.ensures)
 
 pub lists_after_spec : {M : Type 1} → statement M

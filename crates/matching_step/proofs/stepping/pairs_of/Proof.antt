@@ -18,12 +18,12 @@ add_pairs-front-requires c κs = search rules
 abbrev ahead : tie.Start → List Pair
 ahead b = map (pair_of b.args.records (frame 0 [] [] [] b.args.distances.now) b.args.n 1) (picked b.args.first)
 
-fronted : (c : tie.After-add_pairs-front) → let b = c.before.before in take b.args.first.count c.add_pairs-front.result ≡ ahead b
+fronted : (c : tie.After-add_pairs-front) → let b = c in take b.args.first.count c.add_pairs-front.result ≡ ahead b
 fronted c = in-front 32 no_pair (ahead c.before.before) (length-picked _ c.args.first) c.add_pairs-front.ensures
 
 add_pairs-requires : tie.Need-add_pairs-requires
 add_pairs-requires c κs =
-    let b = c.before.before in
+    let b = c in
     let p = b.requires in
     (p.0, p.1, p.2, p.3, p.6, p.7, rw (fronted c) c.add_pairs-front.ensures)
 

@@ -23,7 +23,7 @@ smaller_of-counter-requires c κs = search rules
 
 -- the new counter
 counter : (c : tie.After-smaller_of-counter) →
-    let s = c.before.before.before.before in
+    let s = c in
     to_z w32 (of_z w32 c.smaller_of-counter.result) ≡ raised s.args.period s.args.hit_counter_max s.args.l
 counter c =
     let s = c.before.before.before.before in
@@ -42,7 +42,7 @@ both-requires : tie.Need-both-requires
 both-requires c κs = search rules
 
 due : (c : tie.After-both) →
-    let s = c.before.before.before.before.before in
+    let s = c in
     c.both.result ≡ promotes s.args.period s.args.hit_counter_max s.args.delay s.args.l
 due c = c.both.ensures ∙ rw (to_z-of_z c.ranges.delay, counter c.before)
 

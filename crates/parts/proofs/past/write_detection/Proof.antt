@@ -19,11 +19,11 @@ shape_of-s c = search rules
 
 returns : tie.Need-returns
 returns c =
-    let s = c.before.before.before.before.before.before.before.before.before.before.before in
+    let s = c in
     let a = s.args in
     c.write_at-2.ensures
     ∙ rw c.write_at.ensures
-    (paste-append a.s-1.now a.at a.points.now a.scores.now a.n a.p s.requires.1 s.requires.0)
+    (paste-append a.s.now a.at a.points.now a.scores.now a.n a.p s.requires.1 s.requires.0)
 
 pub write_detection_spec : {M : Type 1} → statement M
 write_detection_spec =

@@ -1,6 +1,5 @@
 -- `parts::points::hit_points` meets its contract: after i turns the counters are those of i turns, and those in range stay so.
 use mathlib.Core.Path.{◌≡◌, refl, sym, ◌∙◌, ap}
-use mathlib.Core.Logic.{⊎_elim}
 use Prim.Native.Nat.{◌≤◌, ◌-◌}
 use native.Mathlib.Nat.{le_antisymm}
 use borrow.Author.Rules.{rules}
@@ -11,6 +10,7 @@ use Rattle.parts.specs.Points.{points_hit}
 use Rattle.parts.proofs.PointLaws.{hit_in_range}
 use Rattle.parts.proofs.points.hit_points.Statement.{statement}
 use Rattle.parts.proofs.points.hit_points.Tie as tie
+use Rattle.parts.proofs.points.hit_points.Lts.{then-is_above, else-is_above}
 
 abbrev invariant-loop-i : tie.invariant-loop-i
 invariant-loop-i n has-scores threshold scores period maximum counters₀ without i₀ counters i =
@@ -40,7 +40,7 @@ bounds-counters-i c = search rules
 
 capped-requires : tie.Need-capped-requires invariant-loop-i decreases-loop-i
 capped-requires c κs =
-    let s = c.before.before.before.before.before.before in
+    let s = c in
     let loop = c.loop-i in (
       rw loop.invariant.1 (hit_in_range _ _ _ _ _ _ _ s.requires.3 _ s.requires.4 loop.i c.loop-i-test.true),
       search rules,
@@ -65,10 +65,10 @@ loop-i-preserved c =
     let tested = sym c.is_above.ensures in (
       search rules,
       turns_next _ loop.i _ {b = loop.counters}
-          (⊎_elim
-          (λ w. rw (tested ∙ w.0.taken) (w.2 ∙ ap (set loop.counters loop.i) w.1.ensures))
-          (λ w. rw (tested ∙ w.0.left) w.1)
-          c.if-is_above.branch)
+          (elim c.if-is_above.branch [
+            then-is_above w ↦ rw (tested ∙ w.if-is_above.true) (w.counters-is ∙ ap (set loop.counters loop.i) w.capped.ensures)
+          | else-is_above w ↦ rw (tested ∙ w.if-is_above.false) w.counters-is
+          ])
           loop.invariant.1,
     )
 

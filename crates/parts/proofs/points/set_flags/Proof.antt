@@ -1,6 +1,5 @@
 -- `parts::points::set_flags` meets its contract: after i turns the flags are those of i turns.
 use mathlib.Core.Path.{◌≡◌, refl, sym, ◌∙◌}
-use mathlib.Core.Logic.{⊎_elim}
 use Prim.Native.Nat.{◌≤◌, ◌-◌}
 use native.Mathlib.Nat.{le_antisymm}
 use borrow.Author.Rules.{rules}
@@ -9,6 +8,7 @@ use Rattle.laws.proofs.Turns.{turns_next}
 use Rattle.parts.specs.Points.{flags_set}
 use Rattle.parts.proofs.points.set_flags.Statement.{statement}
 use Rattle.parts.proofs.points.set_flags.Tie as tie
+use Rattle.parts.proofs.points.set_flags.Lts.{then-is_above, else-is_above}
 
 abbrev invariant-loop-i : tie.invariant-loop-i
 invariant-loop-i flags₀ n has-scores threshold without scores i₀ flags i =
@@ -46,10 +46,10 @@ loop-i-preserved c =
     let tested = sym c.is_above.ensures in (
       search rules,
       turns_next _ loop.i _ {b = loop.flags}
-          (⊎_elim
-          (λ w. rw (tested ∙ w.0.taken) (w.2 ∙ w.1.ensures))
-          (λ w. rw (tested ∙ w.0.left) w.1)
-          c.if-is_above.branch)
+          (elim c.if-is_above.branch [
+            then-is_above w ↦ rw (tested ∙ w.if-is_above.true) (w.flags-is ∙ w.set_flag-flags.ensures)
+          | else-is_above w ↦ rw (tested ∙ w.if-is_above.false) w.flags-is
+          ])
           loop.invariant.1,
     )
 

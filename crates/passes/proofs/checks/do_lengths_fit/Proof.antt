@@ -12,18 +12,18 @@ layout_of-at-requires c κs = search rules
 
 overflow_mul-points : tie.Need-overflow_mul-points
 overflow_mul-points c =
-    let s = c.before.before in
+    let s = c in
     let few : c.layout_of-at.result.coords ≤ 48 = rw c.layout_of-at.ensures (coords-most s.args.config s.requires.0) in
     record { fits = omega (arith, mul-le-mul s.requires.2 few) }
 
 overflow_mul-scores : tie.Need-overflow_mul-scores
 overflow_mul-scores c =
-    let s = c.before.before.before.before in
+    let s = c in
     record { fits = omega (arith, mul-le-mul s.requires.2 s.requires.0.points-most) }
 
 overflow_mul-distances : tie.Need-overflow_mul-distances
 overflow_mul-distances c =
-    let s = c.before.before.before.before.before.before in
+    let s = c in
     record { fits = omega (arith, mul-le-mul s.requires.2 s.requires.1) }
 
 both-requires : tie.Need-both-requires

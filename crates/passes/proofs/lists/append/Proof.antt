@@ -73,7 +73,7 @@ overflow_add-result c = search rules
 
 returns : tie.Need-returns invariant-loop-i decreases-loop-i
 returns c =
-    let s = c.before.before.before in
+    let s = c in
     let loop = c.loop-i in
     let e : loop.i ≡ s.args.m = omega arith in
     rw (← e, loop.invariant.1.0, loop.invariant.1.1)

@@ -51,7 +51,7 @@ among-asked false false = refl
 
 -- what the call says of the number that the code read
 answered : (c : tie.After-is_among invariant-loop-i decreases-loop-i) →
-    let s = c.before.before.before.before.before in
+    let s = c in
     test s (get_or s.args.of.at c.loop-i.i 0) ≡ beq c.is_among.result s.args.wanted
 answered c =
     let s = c.before.before.before.before.before in

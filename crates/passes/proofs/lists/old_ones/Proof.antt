@@ -42,7 +42,7 @@ slice_bounds-keep_among-end c = search rules
 
 keep_among-left-requires : tie.Need-keep_among-left-requires
 keep_among-left-requires c κs =
-    let s = c.before.before.before.before in
+    let s = c in
     let all : length s.args.alive.at ≡ 64 = simp length-map at s.well_formed.1.0.1.1.0.1.0.1 in
     (rw c.get_unmatched-unmatched.ensures (omega (arith, s.requires.0, at_most-total s.args.records (cols_picked s.args.first))), omega (arith, s.requires.1))
 

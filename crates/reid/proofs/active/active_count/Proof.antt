@@ -33,7 +33,7 @@ is_active-requires c κs = search rules
 
 overflow_add-count : tie.Need-overflow_add-count invariant-loop-i decreases-loop-i
 overflow_add-count c =
-    let l = c.before.before.before.before in
+    let l = c in
     record { fits = omega (arith, simp length-map at (active-few l.loop-i.i l.args.records)) }
 
 overflow_add-i : tie.Need-overflow_add-i invariant-loop-i decreases-loop-i
@@ -44,7 +44,7 @@ loop-i-smaller c = search rules
 
 loop-i-preserved : tie.Need-loop-i-preserved invariant-loop-i decreases-loop-i
 loop-i-preserved c =
-    let l = c.before.before.before.before in
+    let l = c in
     let records = l.args.records in
     let h : l.loop-i.i < length records = omega (arith, l.well_formed.0.1.0.1) in
     ⊎_elim

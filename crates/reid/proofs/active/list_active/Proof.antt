@@ -34,7 +34,7 @@ is_active-requires c κs = search rules
 -- there is room for one ID more
 room : (c : tie.In-loop-i invariant-loop-i decreases-loop-i) → (c.loop-i.count < 64) × (c.loop-i.count < length c.loop-i.list)
 room c =
-    let l = c.before in
+    let l = c in
     let list₀ = l.args.list.now in
     let few = active-few l.loop-i.i l.args.records in
     let long = listed_long l.args.records l.loop-i.i list₀ l.loop-i.invariant.1 (omega arith) in
@@ -58,7 +58,7 @@ loop-i-smaller c = search rules
 loop-i-preserved : tie.Need-loop-i-preserved invariant-loop-i decreases-loop-i
 loop-i-preserved c =
     let t = c.before.before.before in
-    let l = t.before in
+    let l = t in
     let records = l.args.records in
     let list₀ = l.args.list.now in
     let h : l.loop-i.i < length records = omega (arith, l.well_formed.0.1.0.1) in
@@ -71,7 +71,7 @@ loop-i-preserved c =
 
 shape_of-list : tie.Need-shape_of-list invariant-loop-i decreases-loop-i
 shape_of-list c =
-    let l = c.before in
+    let l = c in
     let a = l.args in
     listed_long a.t1 l.loop-i.i a.list.now l.loop-i.invariant.1 (omega (arith, active-few l.loop-i.i a.t1))
 

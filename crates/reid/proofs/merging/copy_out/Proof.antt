@@ -44,7 +44,7 @@ loop-i-smaller c = search rules
 
 loop-i-preserved : tie.Need-loop-i-preserved invariant-loop-i decreases-loop-i
 loop-i-preserved c =
-    let l = c.before.before in
+    let l = c in
     let a = l.args in
     let block = drop a.start a.s.now in
     let h : l.loop-i.i < length block = omega (arith, length-drop a.start a.s.now) in (

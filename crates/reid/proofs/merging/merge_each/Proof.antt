@@ -36,7 +36,7 @@ named c =
 loop-i-init : tie.Need-loop-i-init invariant-loop-i decreases-loop-i
 unfolding below through
 loop-i-init c =
-    let s = c.before.before.before in
+    let s = c in
     let p = s.requires in
     let all : length s.args.records ≡ 64 = s.well_formed.1.0.1.0.1 in
     (search rules, put_found s.args.config s.args.n s.args.records s.args.s.now (omega arith) p.2 p.3 (eights 64 s.args.records _ s.well_formed.1.0))

@@ -31,7 +31,7 @@ nonzero_div-result c = (omega arith, rw (to_z-of_z c.ranges.maximum) (half-fits 
 
 returns-then-delay-eqminus1 : tie.Need-returns-then-delay-eqminus1
 returns-then-delay-eqminus1 c =
-    let s = c.before in
+    let s = c in
     let e : s.args.delay ≡ negsuc 0 = sym (to_z-of_z s.ranges.delay) ∙ ap (to_z w32) c.if-delay-eqminus1.true in
     rw (to_z-of_z s.ranges.maximum, to_z-of_z (half-fits s.args.maximum s.ranges.maximum), e)
 

@@ -12,7 +12,7 @@ layout_of-at-requires c κs = sizes_of c.args.config c.requires
 
 overflow_mul-result : tie.Need-overflow_mul-result
 overflow_mul-result c =
-    let s = c.before.before.before in
+    let s = c in
     let size : c.layout_of-at.result.size ≤ 864 = rw c.layout_of-at.ensures (block-most s.args.config (sizes_of s.args.config s.requires)) in
     record { fits = omega (arith, mul-le-mul (settings_facts s.args.config s.requires).capacity.1 size) }
 

@@ -9,7 +9,7 @@ both-requires c κs = search rules
 
 returns : tie.Need-returns
 returns c =
-    let s = c.before in
+    let s = c in
     rw (c.both.ensures, to_z-of_z s.fits.low, to_z-of_z s.fits.z, to_z-of_z s.fits.high)
 
 pub is_between_signed_spec : {M : Type 1} → statement M

@@ -22,7 +22,7 @@ returns-in-Present : tie.Need-returns-in-Present
 unfolding reid_between
 returns-in-Present c =
     let told = c.before in
-    let s = told.before.before.before in
+    let s = told in
     rw (
       c.is_between_signed.ensures,
       to_z-of_z s.fits.low,

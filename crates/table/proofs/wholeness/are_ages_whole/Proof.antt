@@ -50,7 +50,7 @@ age-fits : (c : tie.After-struct_told-1 invariant-loop-i decreases-loop-i)
 age-fits c = search rules
 
 looked : (c : tie.After-is_between_signed invariant-loop-i decreases-loop-i) →
-    let at = c.before.before.before.before in
+    let at = c in
     outside (to_z w32 (of_z w32 at.args.frames)) (get_or at.args.past at.loop-i.i none) ≡ not c.is_between_signed.result
 looked c = rw (c.is_between_signed.ensures, to_z-of_z (age-fits c.before))
 

@@ -32,7 +32,7 @@ returns : tie.Need-returns
 unfolding counts_whole
 returns c =
     let tests = c.before.before.before in
-    let first = tests.before.before.before in
+    let first = tests in
     rw (
       c.both-3.ensures,
       c.both-2.ensures,

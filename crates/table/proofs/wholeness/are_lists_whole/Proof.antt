@@ -34,7 +34,7 @@ both-requires-4 c κs = search rules
 returns : tie.Need-returns
 unfolding lists_whole
 returns c =
-    let asked = c.before.before.before.before in
+    let asked = c in
     rw (
       c.both-4.ensures,
       c.both-3.ensures,

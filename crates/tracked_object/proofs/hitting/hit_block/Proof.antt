@@ -13,18 +13,18 @@ layout_of-at-requires c κs = search rules
 
 update-requires : tie.Need-update-requires
 update-requires c κs =
-    let s = c.before.before.before.before.before.before in
+    let s = c in
     rw c.layout_of-at.ensures
     (s.requires.0.some_dims, omega (arith, filter_inside s.args.config), omega arith, rw s.requires.2 (omega arith))
 
 write_detection-requires : tie.Need-write_detection-requires
 write_detection-requires c κs =
-    let s = c.before.before.before.before.before.before.before.before.before.before in
+    let s = c in
     rw c.layout_of-at.ensures (omega (arith, last_inside s.args.config), omega arith, omega arith)
 
 -- the filter updated, the last detection stored
 stored_last : (c : tie.After-write_detection)
-    → let s = c.before.before.before.before.before.before.before.before.before.before.before in
+    → let s = c in
     c.write_detection.new.0
     ≡ updated_and_stored s.args.config (detection s.args.points.now s.args.scores.now s.args.has_scores) s.args.s.now
 stored_last c = rw (c.write_detection.ensures, c.update.ensures, c.layout_of-at.ensures)
@@ -34,12 +34,12 @@ make_room-requires c κs = rw c.layout_of-at.ensures (omega arith, omega arith)
 
 place_of-place-requires : tie.Need-place_of-place-requires
 place_of-place-requires c κs =
-    let s = c.before.before.before.before.before.before.before.before.before.before.before.before.before.before.before.before.before.before in
+    let s = c in
     rw c.layout_of-at.ensures (block_small s.args.config s.requires.0, omega arith, omega arith)
 
 write_detection-requires-then-most-gt0 : tie.Need-write_detection-requires-then-most-gt0
 write_detection-requires-then-most-gt0 c κs =
-    let s = c.before.before.before.before.before.before.before.before.before.before.before.before.before.before.before.before.before.before.before.before in
+    let s = c in
     rw (c.place_of-place.ensures, c.layout_of-at.ensures)
     (omega (arith, place_inside s.args.config s.args.count c.if-most-gt0.true), omega arith, omega arith)
 

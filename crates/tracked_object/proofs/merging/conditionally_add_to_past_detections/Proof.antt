@@ -39,7 +39,7 @@ make_room-requires c κs = (rw c.layout_of-at.ensures (omega arith), some c.befo
 
 place_of-place-requires : tie.Need-place_of-place-requires
 place_of-place-requires c κs =
-    let s = c.before.before.before.before.before.before.before.before.before.before in (
+    let s = c in (
       rw c.layout_of-at.ensures (omega (arith, block-most s.args.config s.requires.0)),
       some c.before.before.before.before.before.before,
       search rules,

@@ -13,7 +13,7 @@ layout_of-at-requires c κs = search rules
 
 overflow_mul-at : tie.Need-overflow_mul-at
 overflow_mul-at c =
-    let s = c.before.before.before.before.before in
+    let s = c in
     rw c.layout_of-at.ensures record { fits = omega (arith, coords-most s.args.config s.requires.0) }
 
 write_at-requires : tie.Need-write_at-requires
@@ -21,7 +21,7 @@ write_at-requires c κs = rw c.layout_of-at.ensures (omega arith)
 
 offset_bounds-from-last_at : tie.Need-offset_bounds-from-last_at
 offset_bounds-from-last_at c =
-    let s = c.before.before.before.before.before.before.before.before.before in
+    let s = c in
     rw c.layout_of-at.ensures record { fits = omega (arith, coords-most s.args.config s.requires.0) }
 
 slice_bounds-write_at-count : tie.Need-slice_bounds-write_at-count
@@ -35,7 +35,7 @@ slice_bounds-write_at-end c = search rules
 
 write_at-requires-2 : tie.Need-write_at-requires-2
 write_at-requires-2 c κs =
-    let s = c.before.before.before.before.before.before.before.before.before.before in
+    let s = c in
     let from = s.args.from.now in
     let n = c.write_at.auto.0 in
     let d = length-drop (last_place s.args.config) from in
@@ -47,7 +47,7 @@ shape_of-s c = search rules
 
 returns : tie.Need-returns
 returns c =
-    let s = c.before.before.before.before.before.before.before.before.before.before.before.before.before in
+    let s = c in
     rw (
       c.write_at-2.ensures,
       c.write_at.ensures,

@@ -13,12 +13,12 @@ layout_of-at-requires c κs = search rules
 
 make-requires : tie.Need-make-requires
 make-requires c κs =
-    let s = c.before.before.before.before.before.before in
+    let s = c in
     rw c.layout_of-at.ensures (omega (arith, filter_inside s.args.config), omega arith)
 
 write_detection-requires : tie.Need-write_detection-requires
 write_detection-requires c κs =
-    let s = c.before.before.before.before.before.before.before.before.before.before in
+    let s = c in
     rw c.layout_of-at.ensures (omega (arith, last_inside s.args.config), omega arith, omega arith)
 
 open_life-life-requires : tie.Need-open_life-life-requires
@@ -29,7 +29,7 @@ opened_counter-counter-requires c κs = search rules
 
 set_flags-flags-requires : tie.Need-set_flags-flags-requires
 set_flags-flags-requires c κs =
-    let s = c.before.before.before.before.before.before.before.before.before.before.before.before.before.before.before.before in
+    let s = c in
     (s.requires.0.points-most, omega arith)
 
 shape_of-s : tie.Need-shape_of-s
@@ -40,7 +40,7 @@ unfolding object_opened block_opened
 returns c =
     let a = c.args in
     let told = c.struct_told-1.given in
-    let stored = c.before.before.before.before.before.before.before in (
+    let stored = c in (
       rw (
         c.opened_counter-counter.ensures,
         c.set_flags-flags.ensures,

@@ -25,7 +25,7 @@ shape_of-s c = search rules
 returns : tie.Need-returns
 unfolding object_predicted
 returns c =
-    let filter = c.before.before.before.before.before.before in (
+    let filter = c in (
       rw (c.fall_points-counters.ensures, c.predict_life-life.ensures),
       rw (filter.predict.ensures, filter.layout_of-at.ensures),
     )
