@@ -53,7 +53,7 @@ here : (c : tie.In-loop-i invariant-loop-i decreases-loop-i)
     → let a = (given c.before).args in get_or a.t2 c.loop-i.i blank ≡ get_or a.t2 c.loop-i.i zero_object
 here c =
     let s = given c.before in
-    let all : length s.args.records ≡ 64 = s.good.1.0.1.0.1 in
+    let all : length s.args.records ≡ 64 = s.well_formed.1.0.1.0.1 in
     read s.args.records c.loop-i.i (omega arith)
 
 answered : (c : tie.After-is_gone invariant-loop-i decreases-loop-i)
@@ -95,11 +95,11 @@ bounds-kept-k c = let h = space c.before.before.before in omega arith
 
 overflow_mul-k : tie.Need-overflow_mul-k invariant-loop-i decreases-loop-i
 overflow_mul-k c =
-    record { fits = omega (arith, space c.before.before.before.before, (given c.before.before.before.before.before).good.1.1.1.0.0) }
+    record { fits = omega (arith, space c.before.before.before.before, (given c.before.before.before.before.before).well_formed.1.1.1.0.0) }
 
 overflow_mul-i : tie.Need-overflow_mul-i invariant-loop-i decreases-loop-i
 overflow_mul-i c =
-    record { fits = omega (arith, space c.before.before.before.before, (given c.before.before.before.before.before).good.1.1.1.0.0) }
+    record { fits = omega (arith, space c.before.before.before.before, (given c.before.before.before.before.before).well_formed.1.1.1.0.0) }
 
 move_down-requires : tie.Need-move_down-requires invariant-loop-i decreases-loop-i
 move_down-requires c κs = let h = space c.before.before.before.before in rw h.long (omega arith, omega arith)

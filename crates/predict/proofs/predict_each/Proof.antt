@@ -69,13 +69,13 @@ inside c =
     )
 
 overflow_mul-start : tie.Need-overflow_mul-start invariant-loop-i decreases-loop-i
-overflow_mul-start c = record { fits = omega (arith, inside c.before, (given c.before.before).good.1.1.1.0.0) }
+overflow_mul-start c = record { fits = omega (arith, inside c.before, (given c.before.before).well_formed.1.1.1.0.0) }
 
 overflow_add-end : tie.Need-overflow_add-end invariant-loop-i decreases-loop-i
-overflow_add-end c = record { fits = omega (arith, inside c.before, (given c.before.before).good.1.1.1.0.0) }
+overflow_add-end c = record { fits = omega (arith, inside c.before, (given c.before.before).well_formed.1.1.1.0.0) }
 
 offset_bounds-s-start : tie.Need-offset_bounds-s-start invariant-loop-i decreases-loop-i
-offset_bounds-s-start c = record { fits = omega (arith, inside c.before, (given c.before.before).good.1.1.1.0.1) }
+offset_bounds-s-start c = record { fits = omega (arith, inside c.before, (given c.before.before).well_formed.1.1.1.0.1) }
 
 slice_bounds-predict-count : tie.Need-slice_bounds-predict-count invariant-loop-i decreases-loop-i
 slice_bounds-predict-count c = search rules
@@ -97,7 +97,7 @@ predict-next-requires c κs =
     let part : start + size - start ≡ size = omega arith in (
       p.0,
       rw (here t) (p.3 l.loop-i.i t.loop-i-test.true),
-      sym (part_count l.loop-i.s-1 start (start + size) (omega arith, omega arith)) ∙ part ∙ size_of l,
+      sym (part_count l.loop-i.s start (start + size) (omega arith, omega arith)) ∙ part ∙ size_of l,
     )
 
 offset_bounds-records-i-in-loop-i : tie.Need-offset_bounds-records-i-in-loop-i invariant-loop-i decreases-loop-i
@@ -128,7 +128,7 @@ loop-i-preserved c =
 shape_of-s : tie.Need-shape_of-s invariant-loop-i decreases-loop-i
 shape_of-s c =
     let a = (given c.before).args in
-    floats_long a.config a.t2 a.s-1.now c.loop-i.i c.loop-i.invariant.0 (given c.before).pre.2 c.loop-i.invariant.2
+    floats_long a.config a.t2 a.s-1.now c.loop-i.i c.loop-i.invariant.0 (given c.before).requires.2 c.loop-i.invariant.2
 
 returns : tie.Need-returns invariant-loop-i decreases-loop-i
 returns c =

@@ -48,19 +48,19 @@ bounds-cols-i c = search rules
 
 -- the pick's record, and its entry in the matrix
 in_table : (t : tie.In-loop-i invariant-loop-i decreases-loop-i)
-    → let b = given t.before.before.before in get_or b.args.picks.cols-1 t.loop-i.i 0 < 64
+    → let b = given t.before.before.before in get_or b.args.picks.cols t.loop-i.i 0 < 64
 in_table t =
     let l = t.before.before in
-    let p = (given l.before).pre in
+    let p = (given l.before).requires in
     omega (arith, p.5 l.loop-i.i t.loop-i-test.true, p.1.fit)
 
 in-matrix : (t : tie.In-loop-i invariant-loop-i decreases-loop-i)
     → let l = t.before.before in
     let a = (given l.before).args in
-    get_or a.picks.rows-1 l.loop-i.i 0 * a.counts.records + get_or a.picks.cols-1 l.loop-i.i 0 < length a.distances.now
+    get_or a.picks.rows l.loop-i.i 0 * a.counts.records + get_or a.picks.cols l.loop-i.i 0 < length a.distances.now
 in-matrix t =
     let l = t.before.before in
-    let p = (given l.before).pre in
+    let p = (given l.before).requires in
     cell_below (p.4 l.loop-i.i t.loop-i-test.true) (p.5 l.loop-i.i t.loop-i-test.true) (omega (arith, p.2))
 
 offset_bounds-records-k : tie.Need-offset_bounds-records-k invariant-loop-i decreases-loop-i
@@ -70,13 +70,13 @@ bounds-records-k : tie.Need-bounds-records-k invariant-loop-i decreases-loop-i
 bounds-records-k c = in_table c
 
 overflow_mul-distance : tie.Need-overflow_mul-distance invariant-loop-i decreases-loop-i
-overflow_mul-distance c = record { fits = omega (arith, in-matrix c.before, (given c.before.before.before.before).good.1.1.1.1.1.1.1.0) }
+overflow_mul-distance c = record { fits = omega (arith, in-matrix c.before, (given c.before.before.before.before).well_formed.1.1.1.1.1.1.1.0) }
 
 overflow_add-distance : tie.Need-overflow_add-distance invariant-loop-i decreases-loop-i
-overflow_add-distance c = record { fits = omega (arith, in-matrix c.before, (given c.before.before.before.before).good.1.1.1.1.1.1.1.0) }
+overflow_add-distance c = record { fits = omega (arith, in-matrix c.before, (given c.before.before.before.before).well_formed.1.1.1.1.1.1.1.0) }
 
 offset_bounds-distances-d : tie.Need-offset_bounds-distances-d invariant-loop-i decreases-loop-i
-offset_bounds-distances-d c = record { fits = omega (arith, in-matrix c.before, (given c.before.before.before.before).good.1.1.1.1.1.1.1.0) }
+offset_bounds-distances-d c = record { fits = omega (arith, in-matrix c.before, (given c.before.before.before.before).well_formed.1.1.1.1.1.1.1.0) }
 
 bounds-distances-d : tie.Need-bounds-distances-d invariant-loop-i decreases-loop-i
 bounds-distances-d c = in-matrix c.before.before
@@ -86,7 +86,7 @@ hit_at-changed-requires c κs =
     let t = c.before.before.before in
     let l = t.before.before in
     let b = given l.before in
-    let p = b.pre in (
+    let p = b.requires in (
       fits_without p.0 [],
       p.4 l.loop-i.i t.loop-i-test.true,
       object_in_range (passing b) l.loop-i.i l.loop-i.invariant.1 t.loop-i-test.true,
@@ -103,7 +103,7 @@ issue-counts-requires : tie.Need-issue-counts-requires invariant-loop-i decrease
 issue-counts-requires c κs =
     let l = c.before.before.before.before.before.before.before.before.before in
     let b = given l.before in
-    omega (arith, permanent-most (passing b) l.loop-i.i l.loop-i.invariant.1, l.loop-i.invariant.0, b.pre.3, b.pre.6)
+    omega (arith, permanent-most (passing b) l.loop-i.i l.loop-i.invariant.1, l.loop-i.invariant.0, b.requires.3, b.requires.6)
 
 overflow_add-i : tie.Need-overflow_add-i invariant-loop-i decreases-loop-i
 overflow_add-i c = search rules

@@ -26,13 +26,13 @@ abbrev given : tie.At-loop-i invariant-loop-i decreases-loop-i → tie.Start inv
 given l = l.before.before.before.before.before.before
 
 -- the numbers to open lie in their array, and are as many as it says
-listed : (l : tie.At-loop-i invariant-loop-i decreases-loop-i) → (given l).args.left.count ≤ length (given l).args.left.at-1
+listed : (l : tie.At-loop-i invariant-loop-i decreases-loop-i) → (given l).args.left.count ≤ length (given l).args.left.at
 listed l =
-    let all : length (given l).args.left.at-1 ≡ 64 = simp length-map at (given l).well_formed.1.1.1.1.1.1.1.1.0.1.1.0.1.0.1 in
+    let all : length (given l).args.left.at ≡ 64 = simp length-map at (given l).well_formed.1.1.1.1.1.1.1.1.0.1.1.0.1.0.1 in
     omega arith
 
 count : (l : tie.At-loop-i invariant-loop-i decreases-loop-i) → length (numbers (given l).args.left) ≡ (given l).args.left.count
-count l = length-take-le (given l).args.left.count (given l).args.left.at-1 (listed l)
+count l = length-take-le (given l).args.left.count (given l).args.left.at (listed l)
 
 -- there is room for them all
 ready : (l : tie.At-loop-i invariant-loop-i decreases-loop-i)
@@ -93,7 +93,7 @@ loop-i-preserved c =
     let a = (given l).args in
     let all : length a.t2 ≡ 64 = (given l).well_formed.1.0.1.0.1 in
     let h : l.loop-i.i < length (numbers a.left) = omega (arith, count l) in
-    let d = get_or-take a.left.count a.left.at-1 l.loop-i.i 0 (omega arith) in (
+    let d = get_or-take a.left.count a.left.at l.loop-i.i 0 (omega arith) in (
       omega arith,
       let next = turn_next (ready l) l.loop-i.i (omega arith) l.loop-i.invariant.1 h (omega (arith, count l)) (sym d) in
           rw c.count_opening-counts.ensures (next called.open_at-changed.ensures.0 called.open_at-changed.ensures.1),

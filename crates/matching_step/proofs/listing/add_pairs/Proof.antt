@@ -40,15 +40,15 @@ given l = l.before.before.before
 chosen : (c : tie.In-loop-i invariant-loop-i decreases-loop-i)
     → let i = c.loop-i.i in
     let a = (given c.before.before).args in
-    let d = get_or a.picks.rows-1 i 0 in
-    let k = get_or a.picks.cols-1 i 0 in
+    let d = get_or a.picks.rows i 0 in
+    let k = get_or a.picks.cols i 0 in
     (k < 64) × (d * a.n + k < length a.distances.now) × (length a.distances.now ≤ 2048)
 chosen c =
     let g = given c.before.before in
-    let col = g.pre.5 c.loop-i.i c.loop-i-test.true in (
+    let col = g.requires.5 c.loop-i.i c.loop-i-test.true in (
       omega arith,
-      cell_below (g.pre.4 c.loop-i.i c.loop-i-test.true) col (omega arith),
-      omega (arith, mul-le-mul {n₁ = g.args.detections} {m₁ = g.args.n} {n₂ = 32} {m₂ = 64} g.pre.1 g.pre.2),
+      cell_below (g.requires.4 c.loop-i.i c.loop-i-test.true) col (omega arith),
+      omega (arith, mul-le-mul {n₁ = g.args.detections} {m₁ = g.args.n} {n₂ = 32} {m₂ = 64} g.requires.1 g.requires.2),
     )
 
 loop-i-init : tie.Need-loop-i-init invariant-loop-i decreases-loop-i
@@ -107,7 +107,7 @@ loop-i-preserved c =
     let t = c.before.before in
     let l = t.before.before in
     let a = (given l).args in
-    let k = get_or a.picks.cols-1 l.loop-i.i 0 in
+    let k = get_or a.picks.cols l.loop-i.i 0 in
     let many : length a.t1 ≡ 32 = (given l).well_formed.0.1.0.1 in
     let all : length a.t3 ≡ 64 = (given l).well_formed.1.1.0.1.0.1 in
     let front = length-take-le a.start a.t1 (omega arith) in

@@ -27,7 +27,7 @@ first_pass-first-requires c κs = search (rules, (given c).requires, listed (giv
 second_pass-second-requires : tie.Need-second_pass-second-requires
 second_pass-second-requires c κs =
     let b = given c.before in
-    let p = b.pre in
+    let p = b.requires in
     let one = c.first_pass-first.ensures in
     let few : c.first_pass-first.result.count ≤ 32 = omega (arith, p.few, first-few b.args.t b.args.detections (lent b) one) in
     let rows = first_rows b.args.t b.args.detections (lent b) one p.few in
@@ -36,7 +36,7 @@ second_pass-second-requires c κs =
 left_over-left-requires : tie.Need-left_over-left-requires
 left_over-left-requires c κs =
     let b = given c.before.before in
-    let p = b.pre in
+    let p = b.requires in
     let one = c.first_pass-first.ensures in (
       p.few,
       omega (arith, p.few, first-few b.args.t b.args.detections (lent b) one),

@@ -25,13 +25,13 @@ given c = c.before.before.before.before.before.before.before.before.before.befor
 abbrev lent : tie.Start → Frame
 lent b = let a = b.args in frame a.period a.points.now a.scores.now a.has_scores.now a.distances.now
 
-few : (b : tie.Start) → (b.args.decided.first-1.count ≤ 32) × (b.args.decided.second-1.count ≤ 32)
+few : (b : tie.Start) → (b.args.decided.first.count ≤ 32) × (b.args.decided.second.count ≤ 32)
 few b =
     let n = length b.args.has_scores.now in
     rw b.requires.1 (omega (arith, few_hits b.args.t n (lent b), b.requires.0.decidable.few), omega (arith, few_hits b.args.t n (lent b), b.requires.0.decidable.few))
 
 -- the picks of pass 2 stand as they were listed
-second-listed : (b : tie.Start) → b.args.decided.second-1 ≡ picks_of (picked b.args.decided.second-1)
+second-listed : (b : tie.Start) → b.args.decided.second ≡ picks_of (picked b.args.decided.second)
 second-listed b = rw (b.requires.1, picked_of (second_hits b.args.t (length b.args.has_scores.now) (lent b)))
 
 -- ---- what each part put back, on what the part before left
@@ -39,12 +39,12 @@ second-listed b = rw (b.requires.1, picked_of (second_hits b.args.t (length b.ar
 abbrev Left : tie.Start → (Table → List Float → ℕ → Frame → State) → Stepped → List Float → Type 0
 Left b after r g =
     let a = b.args in
-    Put a.t.config-1 a.t.records-1 a.s-1.now (after a.t a.s-1.now (length a.has_scores.now) (lent b)) r.records-1 r.counts g
+    Put a.t.config a.t.records a.s-1.now (after a.t a.s-1.now (length a.has_scores.now) (lent b)) r.records-1 r.counts g
 
 first : (one : tie.After-hit_each-one) → Left (given one.before) after_first one.hit_each-one.result one.hit_each-one.new.1.1.1.0
 first one =
     let b = given one.before in
-    put_first b.args.t b.args.s.now (lent b) b.pre.0 b.pre.1 one.hit_each-one.ensures.0 one.hit_each-one.ensures.1
+    put_first b.args.t b.args.s.now (lent b) b.requires.0 b.requires.1 one.hit_each-one.ensures.0 one.hit_each-one.ensures.1
 
 abbrev pass-one : tie.After-hit_each-two → tie.After-hit_each-one
 pass-one two = two.before.before.before.before.before
@@ -52,7 +52,7 @@ pass-one two = two.before.before.before.before.before
 second : (two : tie.After-hit_each-two) → Left (given (pass-one two).before) after_second two.hit_each-two.result two.hit_each-two.new.1.1.1.0
 second two =
     let b = given (pass-one two).before in
-    put_second b.args.t b.args.s.now (lent b) b.pre.0 b.pre.1 (first (pass-one two)) two.hit_each-two.ensures.0 two.hit_each-two.ensures.1
+    put_second b.args.t b.args.s.now (lent b) b.requires.0 b.requires.1 (first (pass-one two)) two.hit_each-two.ensures.0 two.hit_each-two.ensures.1
 
 abbrev pass-two : tie.After-open_each-three → tie.After-hit_each-two
 pass-two three = three.before.before.before.before.before
@@ -63,19 +63,19 @@ begun three = given (pass-one (pass-two three)).before
 third : (three : tie.After-open_each-three) → Left (begun three) after_opening three.open_each-three.result three.open_each-three.new.1.1.1.0
 third three =
     let b = begun three in
-    put_third b.args.t b.args.s.now (lent b) b.pre.0 b.pre.1 (second (pass-two three)) three.open_each-three.ensures.0 three.open_each-three.ensures.1
+    put_third b.args.t b.args.s.now (lent b) b.requires.0 b.requires.1 (second (pass-two three)) three.open_each-three.ensures.0 three.open_each-three.ensures.1
 
 hit_each-one-requires : tie.Need-hit_each-one-requires
 hit_each-one-requires c κs =
     let b = given c in
-    let r = b.pre.0 in
+    let r = b.requires.0 in
     let n = length b.args.has_scores.now in (
       r.fits,
       r.holding,
       r.decidable.distances,
       (few b).0,
-      rw b.pre.1 (first_rows b.args.t n (lent b)),
-      rw b.pre.1 (first-cols b.args.t n (lent b)),
+      rw b.requires.1 (first_rows b.args.t n (lent b)),
+      rw b.requires.1 (first-cols b.args.t n (lent b)),
       omega (arith, r.permanent),
     )
 
@@ -83,7 +83,7 @@ hit_each-two-requires : tie.Need-hit_each-two-requires
 hit_each-two-requires c κs =
     let one = c.before.before.before.before in
     let b = given one.before in
-    let r = b.pre.0 in
+    let r = b.requires.0 in
     let n = length b.args.has_scores.now in
     let put = first one in
     let stands = stands_after_first b.args.t b.args.s.now (lent b) r in
@@ -92,8 +92,8 @@ hit_each-two-requires c κs =
       holds_again stands put r.holding,
       rw same r.decidable.distances,
       (few b).1,
-      rw b.pre.1 (second-rows b.args.t n (lent b)),
-      rw (same, b.pre.1) (second-cols b.args.t n (lent b)),
+      rw b.requires.1 (second-rows b.args.t n (lent b)),
+      rw (same, b.requires.1) (second-cols b.args.t n (lent b)),
       rw put.counts (omega (arith, r.permanent, r.decidable.few, few_hits b.args.t n (lent b), permanent-first b.args.t b.args.s.now (lent b) r)),
     )
 
@@ -101,7 +101,7 @@ open_each-three-requires : tie.Need-open_each-three-requires
 open_each-three-requires c κs =
     let two = c.before.before.before.before in
     let b = given (pass-one two).before in
-    let r = b.pre.0 in
+    let r = b.requires.0 in
     let t = b.args.t in
     let s = b.args.s.now in
     let n = length b.args.has_scores.now in
@@ -110,9 +110,9 @@ open_each-three-requires c κs =
     let same = counted_again stands put in
     let long = put_long put stands.sized (rw stands.long r.holding.room) in (
       fits_without r.fits [],
-      rw (same, b.pre.1) r.places,
-      rw (same, long, b.pre.1) r.blocks,
-      rw b.pre.1 (left_below t n (lent b)),
+      rw (same, b.requires.1) r.places,
+      rw (same, long, b.requires.1) r.blocks,
+      rw b.requires.1 (left_below t n (lent b)),
       rw (put.counts, opened-second t s (lent b) r) (omega (arith, r.opened)),
       rw put.counts (omega (arith, r.permanent, r.decidable.few, permanent-second t s (lent b) r)),
       rw (put.counts, global-second t s (lent b) r) (omega (arith, r.global)),
@@ -122,7 +122,7 @@ open_each-three-requires c κs =
 lists_after-lists-requires : tie.Need-lists_after-lists-requires
 lists_after-lists-requires c κs =
     let b = begun c.before.before.before.before in
-    let r = b.pre.0 in
+    let r = b.requires.0 in
     (r.decidable.fit, r.decidable.alive.0, r.dead.0, (few b).0, r.dead.1, second-listed b)
 
 abbrev opened : tie.After-lists_after-lists → tie.After-open_each-three
@@ -131,14 +131,14 @@ opened c = c.before.before.before.before.before
 shape_of-s : tie.Need-shape_of-s
 shape_of-s c =
     let b = begun (opened c) in
-    whole_length b.args.t b.args.s.now (lent b) b.pre.0 b.pre.1 (third (opened c))
+    whole_length b.args.t b.args.s.now (lent b) b.requires.0 b.requires.1 (third (opened c))
 
 returns : tie.Need-returns
 unfolding match_floats
 returns c =
     let b = begun (opened c) in
     let put = third (opened c) in
-    (table_is b.args.t b.args.s.now (lent b) b.pre.0 b.pre.1 put c.lists_after-lists.ensures, put.floats)
+    (table_is b.args.t b.args.s.now (lent b) b.requires.0 b.requires.1 put c.lists_after-lists.ensures, put.floats)
 
 pub match_step_spec : {M : Type 1} → statement M
 match_step_spec =

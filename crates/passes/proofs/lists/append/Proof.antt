@@ -21,15 +21,15 @@ abbrev decreases-loop-i : tie.decreases-loop-i
 decreases-loop-i list m at₀ start i₀ at i = m - i
 
 -- the front is as long as it counts
-front_long : (c : tie.Start invariant-loop-i decreases-loop-i) → length (take c.args.front.count c.args.front.at-1) ≡ c.args.front.count
+front_long : (c : tie.Start invariant-loop-i decreases-loop-i) → length (take c.args.front.count c.args.front.at) ≡ c.args.front.count
 front_long c =
-    let all : length c.args.front.at-1 ≡ 64 = simp length-map at c.well_formed.0.1.1.0.1.0.1 in
-    length-take-le c.args.front.count c.args.front.at-1 (omega (arith, c.requires.0))
+    let all : length c.args.front.at ≡ 64 = simp length-map at c.well_formed.0.1.1.0.1.0.1 in
+    length-take-le c.args.front.count c.args.front.at (omega (arith, c.requires.0))
 
 loop-i-init : tie.Need-loop-i-init invariant-loop-i decreases-loop-i
 loop-i-init c =
     let s = c.before in
-    let held : Stands 64 (numbers s.args.front ++ []) s.args.front.at-1 (s.args.front.count + 0) =
+    let held : Stands 64 (numbers s.args.front ++ []) s.args.front.at (s.args.front.count + 0) =
     rw append-nil (omega (arith, front_long s), ap (λ (l : Numbers). l.at-1) s.requires.2) in
     (search rules, held)
 

@@ -58,7 +58,7 @@ keep_among-unnamed-requires : tie.Need-keep_among-unnamed-requires
 keep_among-unnamed-requires c κs =
     let left = c.before.before in
     let s = given left in
-    (s.pre.2, count_inside (alive-left s) (is-left left) (omega (arith, few s)))
+    (s.requires.2, count_inside (alive-left s) (is-left left) (omega (arith, few s)))
 
 are-unnamed : (c : tie.After-keep_among-unnamed) → c.keep_among-unnamed.result ≡ numbers_of (unnamed (given c.before.before.before))
 are-unnamed c =

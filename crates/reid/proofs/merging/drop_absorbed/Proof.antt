@@ -51,9 +51,9 @@ loop-i-init c = (search rules, refl, refl, rw zero-mul)
 leaves-requires : tie.Need-leaves-requires invariant-loop-i decreases-loop-i
 leaves-requires c κs =
     let s = given c.before in
-    let rows : length s.args.places.rows ≡ 32 = simp length-map at s.good.1.1.1.1.0.1.1.0.1.0.1 in
-    let cols : length s.args.places.cols ≡ 32 = simp length-map at s.good.1.1.1.1.0.1.1.1.0.1.0.1 in
-    (omega (arith, s.pre.3), omega (arith, s.pre.3))
+    let rows : length s.args.places.rows ≡ 32 = simp length-map at s.well_formed.1.1.1.1.0.1.1.0.1.0.1 in
+    let cols : length s.args.places.cols ≡ 32 = simp length-map at s.well_formed.1.1.1.1.0.1.1.1.0.1.0.1 in
+    (omega (arith, s.requires.3), omega (arith, s.requires.3))
 
 overflow_add-i : tie.Need-overflow_add-i invariant-loop-i decreases-loop-i
 overflow_add-i c = search rules
@@ -91,12 +91,12 @@ bounds-kept-k c = let h = space c.before.before.before in omega arith
 overflow_mul-k : tie.Need-overflow_mul-k invariant-loop-i decreases-loop-i
 overflow_mul-k c =
     let t = c.before.before.before.before in
-    record { fits = omega (arith, space t, (given t.before).good.1.1.1.0.0) }
+    record { fits = omega (arith, space t, (given t.before).well_formed.1.1.1.0.0) }
 
 overflow_mul-i : tie.Need-overflow_mul-i invariant-loop-i decreases-loop-i
 overflow_mul-i c =
     let t = c.before.before.before.before in
-    record { fits = omega (arith, space t, (given t.before).good.1.1.1.0.0) }
+    record { fits = omega (arith, space t, (given t.before).well_formed.1.1.1.0.0) }
 
 move_down-requires : tie.Need-move_down-requires invariant-loop-i decreases-loop-i
 move_down-requires c κs = let h = space c.before.before.before.before in rw h.long (omega arith, omega arith)

@@ -54,16 +54,16 @@ bounds-olds-i : tie.Need-bounds-olds-i invariant-loop-i decreases-loop-i
 bounds-olds-i c = search rules
 
 offset_bounds-records-a : tie.Need-offset_bounds-records-a invariant-loop-i decreases-loop-i
-offset_bounds-records-a c = record { fits = omega (arith, (named c).0, (given c.before.before).pre.1) }
+offset_bounds-records-a c = record { fits = omega (arith, (named c).0, (given c.before.before).requires.1) }
 
 bounds-records-a : tie.Need-bounds-records-a invariant-loop-i decreases-loop-i
-bounds-records-a c = omega (arith, (named c).0, (given c.before.before).pre.1)
+bounds-records-a c = omega (arith, (named c).0, (given c.before.before).requires.1)
 
 offset_bounds-records-b : tie.Need-offset_bounds-records-b invariant-loop-i decreases-loop-i
-offset_bounds-records-b c = record { fits = omega (arith, (named c.before).1, (given c.before.before.before).pre.1) }
+offset_bounds-records-b c = record { fits = omega (arith, (named c.before).1, (given c.before.before.before).requires.1) }
 
 bounds-records-b : tie.Need-bounds-records-b invariant-loop-i decreases-loop-i
-bounds-records-b c = omega (arith, (named c.before).1, (given c.before.before.before).pre.1)
+bounds-records-b c = omega (arith, (named c.before).1, (given c.before.before.before).requires.1)
 
 merge_at-next-requires : tie.Need-merge_at-next-requires invariant-loop-i decreases-loop-i
 merge_at-next-requires c κs =
@@ -77,12 +77,12 @@ merge_at-next-requires c κs =
 offset_bounds-records-b-in-loop-i : tie.Need-offset_bounds-records-b-in-loop-i invariant-loop-i decreases-loop-i
 offset_bounds-records-b-in-loop-i c =
     let t = c.before.before.before.before.before.before in
-    record { fits = omega (arith, (named t).1, (given t.before.before).pre.1) }
+    record { fits = omega (arith, (named t).1, (given t.before.before).requires.1) }
 
 bounds-records-b-in-loop-i : tie.Need-bounds-records-b-in-loop-i invariant-loop-i decreases-loop-i
 bounds-records-b-in-loop-i c =
     let t = c.before.before.before.before.before.before in
-    omega (arith, (named t).1, (given t.before.before).pre.1)
+    omega (arith, (named t).1, (given t.before.before).requires.1)
 
 overflow_add-i : tie.Need-overflow_add-i invariant-loop-i decreases-loop-i
 overflow_add-i c = search rules

@@ -18,10 +18,10 @@ step_refusal-first-requires c κs = search rules
 then-frames : (c : tie.After-step_refusal-first) →
     let a = c.args in
     let first = c.step_refusal-first.result in
-    first_due (predict_checks a.t a.floats) ≡ cond (eqb first 0) (first_due (check 7 (leb 200000000 a.t.counts-1.frames) ∷ [])) first
+    first_due (predict_checks a.t a.floats) ≡ cond (eqb first 0) (first_due (check 7 (leb 200000000 a.t.counts.frames) ∷ [])) first
 then-frames c =
     let a = c.args in
-    rw c.step_refusal-first.ensures (after-step Predict a.t a.floats (check 7 (leb 200000000 a.t.counts-1.frames) ∷ []))
+    rw c.step_refusal-first.ensures (after-step Predict a.t a.floats (check 7 (leb 200000000 a.t.counts.frames) ∷ []))
 
 returns-then-first-ne0 : tie.Need-returns-then-first-ne0
 returns-then-first-ne0 c = sym (rw (ne_eqb _ 0 c.if-first-ne0.true) at (then-frames c.before))

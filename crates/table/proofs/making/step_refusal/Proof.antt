@@ -15,7 +15,7 @@ whole c = sym c.is_whole.ensures ∙ not-false _ c.if-not-is_whole.false-raw
 
 enough : (c : tie.Else-floats-storage_need) →
     let a = c.args in
-    storage_short a.t.config-1 a.floats ≡ false
+    storage_short a.t.config a.floats ≡ false
 enough c = le-ltb _ _ (rw c.storage_need.ensures at c.if-floats-storage_need.false)
 
 is_whole-requires : tie.Need-is_whole-requires

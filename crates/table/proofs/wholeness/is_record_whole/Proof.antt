@@ -16,7 +16,7 @@ use Rattle.table.proofs.wholeness.is_record_whole.Tie as tie
 returns-then-config-n : tie.Need-returns-then-config-n
 unfolding record_whole
 returns-then-config-n c =
-    let hit = c.args.o.life-1.hit_counter in
+    let hit = c.args.o.life.hit_counter in
     rw (
       lt-leb _ _ c.if-config-n.true,
       and-false,
@@ -59,7 +59,7 @@ both-requires-4 c κs = search rules
 both-requires-5 : tie.Need-both-requires-5
 both-requires-5 c κs = search rules
 
-hit-fits : (c : tie.Start) → SFits w32 c.args.o.life-1.hit_counter
+hit-fits : (c : tie.Start) → SFits w32 c.args.o.life.hit_counter
 hit-fits c = search rules
 
 frames-kept : (c : tie.Start) → to_z w32 c.args.frames ≡ pos c.args.frames

@@ -12,7 +12,7 @@ use Rattle.table.proofs.wholeness.is_whole.Tie as tie
 are_settings_whole-requires : tie.Need-are_settings_whole-requires
 are_settings_whole-requires c κs = search rules
 
-settings-pass : (c : tie.Else-not-are_settings_whole) → settings_whole c.args.t.config-1 ≡ true
+settings-pass : (c : tie.Else-not-are_settings_whole) → settings_whole c.args.t.config ≡ true
 settings-pass c = sym c.are_settings_whole.ensures ∙ not-false _ c.if-not-are_settings_whole.false-raw
 
 counts-pass : (c : tie.Else-not-are_counts_whole) →

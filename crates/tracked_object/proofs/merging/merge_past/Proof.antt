@@ -69,7 +69,7 @@ room : (c : tie.In-loop-i invariant-loop-i decreases-loop-i)
     × (length (given c.before).args.from.now ≤ 864)
 room c =
     let a = (given c.before).args in
-    let p = (given c.before).pre in
+    let p = (given c.before).requires in
     let made = c.layout_of-at in
     (inside a.config made.result made.ensures a.from.now c.loop-i.i p.5 (omega arith), omega (arith, block-most a.config p.0))
 
@@ -125,14 +125,14 @@ loop-i-preserved c =
     let t = c.before.before.before.before.before.before.before in
     let a = (given t.before).args in
     let loop = t.loop-i in
-    let eight : length a.candidate.past ≡ 8 = simp length-map at (given t.before).good.1.1.1.1.0.1.1.0.1.0.1 in
+    let eight : length a.candidate.past ≡ 8 = simp length-map at (given t.before).well_formed.1.1.1.1.0.1.1.0.1.0.1 in
     let mark = get_or-any a.candidate.past loop.i record { age = pos 0; has_scores = false } unaged (omega (arith, t.loop-i-test.true)) in
     let made = t.layout_of-at in
     let turned = rw (lent a.config made.result made.ensures a.from.now loop.i, mark) at c.conditionally_add_to_past_detections-marks.ensures in
     (search rules, turns_next (turn a.config a.age a.candidate.past a.from.now) loop.i _ turned loop.invariant.1)
 
 shape_of-s : tie.Need-shape_of-s invariant-loop-i decreases-loop-i
-shape_of-s c = (kept c.before).long ∙ sym (given c.before).pre.6
+shape_of-s c = (kept c.before).long ∙ sym (given c.before).requires.6
 
 returns : tie.Need-returns invariant-loop-i decreases-loop-i
 unfolding history_merged
