@@ -39,7 +39,7 @@ loop-i-smaller c = search rules
 loop-i-preserved : tie.Need-loop-i-preserved invariant-loop-i decreases-loop-i
 loop-i-preserved c =
     let s = c in
-    let all : length s.args.list.at ≡ 64 = simp length-map at s.well_formed.0.1.1.0.1.0.1 in (
+    let all : length s.args.list.at ≡ 64 = s.well_formed.0.1.1.0.1.0.1 in (
       search rules,
       through_next (λ i u. set u i false) s.args.list.at c.loop-i.i 0 (replicate 64 true) (omega (arith, s.requires.0)) refl c.loop-i.invariant.1,
     )

@@ -39,7 +39,7 @@ loop-i-smaller c = search rules
 loop-i-preserved : tie.Need-loop-i-preserved invariant-loop-i decreases-loop-i
 loop-i-preserved c =
     let s = c in
-    let all : length s.args.picks.rows ≡ 32 = simp length-map at s.well_formed.0.1.1.0.1.0.1 in (
+    let all : length s.args.picks.rows ≡ 32 = s.well_formed.0.1.1.0.1.0.1 in (
       search rules,
       through_next (λ i u. set u i true) s.args.picks.rows c.loop-i.i 0 (replicate 32 false) (omega (arith, s.requires.0)) refl c.loop-i.invariant.1,
     )

@@ -27,7 +27,7 @@ none-due c = omega (arith, c.predict_refusal-due.ensures, c.if-due-ne0.false)
 predict_table-stepped-requires : tie.Need-predict_table-stepped-requires
 predict_table-stepped-requires c κs =
     let s = c in
-    let all : length s.args.t.records ≡ 64 = simp length-map at s.well_formed.0.1.1.0.1.0.1 in
+    let all : length s.args.t.records ≡ 64 = s.well_formed.0.1.1.0.1.0.1 in
     ready s.args.t (length s.args.storage.now) all (none-due c.before)
 
 shape_of-storage : tie.Need-shape_of-storage

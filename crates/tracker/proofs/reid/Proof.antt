@@ -34,7 +34,7 @@ asked : (c : tie.Else-refusal-ne0) → let a = (given c.before).args in
     reid.Ready a.t (length a.storage-1.now) (length a.distances.now) × (a.t.counts.records ≤ length a.active-1.now)
 asked c =
     let b = given c.before in
-    let all : length b.args.t.records ≡ 64 = simp length-map at b.well_formed.0.1.1.0.1.0.1 in
+    let all : length b.args.t.records ≡ 64 = b.well_formed.0.1.1.0.1.0.1 in
     reid_ready b.args.t (length b.args.storage.now) (length b.args.distances.now) (length b.args.active.now) all (omega (arith, c.reid_refusal-refusal.ensures, c.if-refusal-ne0.false))
 
 reid_table-merged-requires : tie.Need-reid_table-merged-requires

@@ -28,7 +28,7 @@ given l = l.before.before.before.before.before.before
 -- the numbers to open lie in their array, and are as many as it says
 listed : (l : tie.At-loop-i invariant-loop-i decreases-loop-i) → (given l).args.left.count ≤ length (given l).args.left.at
 listed l =
-    let all : length (given l).args.left.at ≡ 64 = simp length-map at (given l).well_formed.1.1.1.1.1.1.1.1.0.1.1.0.1.0.1 in
+    let all : length (given l).args.left.at ≡ 64 = (given l).well_formed.1.1.1.1.1.1.1.1.0.1.1.0.1.0.1 in
     omega arith
 
 count : (l : tie.At-loop-i invariant-loop-i decreases-loop-i) → length (numbers (given l).args.left) ≡ (given l).args.left.count

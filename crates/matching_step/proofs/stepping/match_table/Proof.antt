@@ -68,7 +68,7 @@ match_step-table-requires c κs =
     let none = c.before.before.before in
     let d = none.before.before in
     let b = start (given d).before in
-    startable (came d) none.decided_refusal-refusal.ensures none.if-refusal-ne0.false (simp length-map at b.well_formed.0.1.1.0.1.0.1)
+    startable (came d) none.decided_refusal-refusal.ensures none.if-refusal-ne0.false (b.well_formed.0.1.1.0.1.0.1)
 
 overflow_add-count : tie.Need-overflow_add-count
 overflow_add-count c = omega (arith, (pairable (came c.before.before.before.before.before.before.before.before.before)).0)

@@ -23,7 +23,7 @@ decreases-loop-i list m at₀ start i₀ at i = m - i
 -- the front is as long as it counts
 front_long : (c : tie.Start invariant-loop-i decreases-loop-i) → length (take c.args.front.count c.args.front.at) ≡ c.args.front.count
 front_long c =
-    let all : length c.args.front.at ≡ 64 = simp length-map at c.well_formed.0.1.1.0.1.0.1 in
+    let all : length c.args.front.at ≡ 64 = c.well_formed.0.1.1.0.1.0.1 in
     length-take-le c.args.front.count c.args.front.at (omega (arith, c.requires.0))
 
 loop-i-init : tie.Need-loop-i-init invariant-loop-i decreases-loop-i

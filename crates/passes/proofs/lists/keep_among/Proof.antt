@@ -37,7 +37,7 @@ is_among-requires c κs = search rules
 
 -- all 64 places are there
 whole : (s : tie.Start invariant-loop-i decreases-loop-i) → length s.args.of.at ≡ 64
-whole s = simp length-map at s.well_formed.0.1.1.0.1.0.1
+whole s = s.well_formed.0.1.1.0.1.0.1
 
 abbrev test : tie.Start invariant-loop-i decreases-loop-i → ℕ → Bool
 test s = among s.args.wanted (take s.args.m s.args.list.now)

@@ -18,7 +18,7 @@ slice_bounds-keep_among-end c = search rules
 keep_among-requires : tie.Need-keep_among-requires
 keep_among-requires c κs =
     let s = c in
-    let all : length s.args.second.rows ≡ 32 = simp length-map at s.well_formed.1.1.0.1.1.0.1.0.1 in
+    let all : length s.args.second.rows ≡ 32 = s.well_formed.1.1.0.1.1.0.1.0.1 in
     (rw c.get_unmatched-left.ensures (le_trans (at_most-total _ _) (omega (arith, s.requires.0))), omega (arith, s.requires.2))
 
 returns : tie.Need-returns

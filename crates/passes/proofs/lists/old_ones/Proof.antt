@@ -43,7 +43,7 @@ slice_bounds-keep_among-end c = search rules
 keep_among-left-requires : tie.Need-keep_among-left-requires
 keep_among-left-requires c κs =
     let s = c in
-    let all : length s.args.alive.at ≡ 64 = simp length-map at s.well_formed.1.0.1.1.0.1.0.1 in
+    let all : length s.args.alive.at ≡ 64 = s.well_formed.1.0.1.1.0.1.0.1 in
     (rw c.get_unmatched-unmatched.ensures (omega (arith, s.requires.0, at_most-total s.args.records (cols_picked s.args.first))), omega (arith, s.requires.1))
 
 is-left : (c : tie.After-keep_among-left) → c.keep_among-left.result ≡ numbers_of (alive-left (given c))

@@ -51,8 +51,8 @@ loop-i-init c = (search rules, refl, refl, rw zero-mul)
 leaves-requires : tie.Need-leaves-requires invariant-loop-i decreases-loop-i
 leaves-requires c κs =
     let s = given c.before in
-    let rows : length s.args.places.rows ≡ 32 = simp length-map at s.well_formed.1.1.1.1.0.1.1.0.1.0.1 in
-    let cols : length s.args.places.cols ≡ 32 = simp length-map at s.well_formed.1.1.1.1.0.1.1.1.0.1.0.1 in
+    let rows : length s.args.places.rows ≡ 32 = s.well_formed.1.1.1.1.0.1.1.0.1.0.1 in
+    let cols : length s.args.places.cols ≡ 32 = s.well_formed.1.1.1.1.0.1.1.1.0.1.0.1 in
     (omega (arith, s.requires.3), omega (arith, s.requires.3))
 
 overflow_add-i : tie.Need-overflow_add-i invariant-loop-i decreases-loop-i

@@ -16,7 +16,7 @@ slice_bounds-are_names-end c = search rules
 are_names-requires : tie.Need-are_names-requires
 are_names-requires c κs =
     let s = c in
-    let all : length s.args.list.at ≡ 64 = simp length-map at s.well_formed.0.1.1.0.1.0.1 in
+    let all : length s.args.list.at ≡ 64 = s.well_formed.0.1.1.0.1.0.1 in
     omega (arith, c.if-n-gt64.false)
 
 returns : tie.Need-returns

@@ -25,7 +25,7 @@ write_detection-requires c κs =
 -- the filter updated, the last detection stored
 stored_last : (c : tie.After-write_detection)
     → let s = c in
-    c.write_detection.new.0
+    c.write_detection.new.s
     ≡ updated_and_stored s.args.config (detection s.args.points.now s.args.scores.now s.args.has_scores) s.args.s.now
 stored_last c = rw (c.write_detection.ensures, c.update.ensures, c.layout_of-at.ensures)
 

@@ -58,7 +58,7 @@ kept : (c : tie.At-loop-i invariant-loop-i decreases-loop-i)
 kept c =
     let a = (given c).args in
     let p = (given c).requires in
-    let eight : length a.marks.past ≡ 8 = simp length-map at (given c).well_formed.1.0.1.1.0.1.0.1 in
+    let eight : length a.marks.past ≡ 8 = (given c).well_formed.1.0.1.1.0.1.0.1 in
     rw c.loop-i.invariant.1
     (kept_turns a.config p.0 a.age p.3 _ a.candidate.past a.from.now c.loop-i.i _ p.5 (omega arith)
     record { counted = p.1; eight = eight; aged = p.2; long = p.6; kept = refl })
@@ -125,7 +125,7 @@ loop-i-preserved c =
     let t = c.before.before.before.before.before.before.before in
     let a = (given t.before).args in
     let loop = t.loop-i in
-    let eight : length a.candidate.past ≡ 8 = simp length-map at (given t.before).well_formed.1.1.1.1.0.1.1.0.1.0.1 in
+    let eight : length a.candidate.past ≡ 8 = (given t.before).well_formed.1.1.1.1.0.1.1.0.1.0.1 in
     let mark = get_or-any a.candidate.past loop.i record { age = pos 0; has_scores = false } unaged (omega (arith, t.loop-i-test.true)) in
     let made = t.layout_of-at in
     let turned = rw (lent a.config made.result made.ensures a.from.now loop.i, mark) at c.conditionally_add_to_past_detections-marks.ensures in

@@ -37,7 +37,7 @@ write_at-requires-2 : tie.Need-write_at-requires-2
 write_at-requires-2 c κs =
     let s = c in
     let from = s.args.from.now in
-    let n = c.write_at.auto.0 in
+    let n = c.write_at.auto.s in
     let d = length-drop (last_place s.args.config) from in
     rw c.layout_of-at.ensures
     (omega arith, rw (part_to_end from (last_place s.args.config)) (omega arith))

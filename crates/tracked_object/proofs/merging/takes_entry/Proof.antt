@@ -27,7 +27,7 @@ bounds-past-0 c = search rules
 -- the code's default is another one
 oldest : (s : tie.Start) → get_or s.args.marks.past 0 record { age = pos 0; has_scores = false } ≡ get_or s.args.marks.past 0 unaged
 oldest s =
-    let n : length s.args.marks.past ≡ 8 = simp length-map at s.well_formed.1.0.1.1.0.1.0.1 in
+    let n : length s.args.marks.past ≡ 8 = s.well_formed.1.0.1.1.0.1.0.1 in
     get_or-any s.args.marks.past 0 _ _ (omega arith)
 
 is_due-requires : tie.Need-is_due-requires
