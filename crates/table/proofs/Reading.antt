@@ -4,7 +4,7 @@ use mathlib.Core.Bool.{false}
 use mathlib.Core.List.{List, [], ◌∷◌}
 use Prim.Native.Nat.{ℕ, ◌<◌}
 use lib.IntN.{pos}
-use lib.ListN.{length, get_or, length-map}
+use lib.ListN.{length, get_or}
 use mir.Val.{Val}
 use denote.RattleType.{RattleType}
 use denote.Laws.{Is}
@@ -38,7 +38,7 @@ read records i h = get_or-any records i blank zero_object h
 -- ---- what the machine tells of every element of an array
 
 module _ (R : RattleType) (P : R.Denot → Type 0) (tells : (x : R.Denot) (vs : List Val) → Is R x vs → P x) where
-  told_each : (xs : List R.Denot) (us : List Val) → shadow (each R.Denot R.own xs us) → Every P xs
+  told_each : (xs : List R.Denot) (us : List Val) → shadow (each R.Denot R.own_val xs us) → Every P xs
   told_each [] us s = none
   told_each (x ∷ xs) [] s = absurd s
   told_each (x ∷ xs) (u ∷ us) s = one (tells x (u ∷ []) s.0) (told_each xs us s.1)
@@ -48,4 +48,4 @@ module _ (R : RattleType) (P : R.Denot → Type 0) (tells : (x : R.Denot) (vs : 
 
 -- of every record that its history has 8 places
 pub eights : (n : ℕ) (xs : List TrackedObject) (vs : List Val) → Is (Array (row the_type) n) xs vs → Every (λ o. length o.past ≡ 8) xs
-eights = told (row the_type) (λ o. length o.past ≡ 8) (λ o vs p. simp length-map at p.1.1.0.1.0.1)
+eights = told (row the_type) (λ o. length o.past ≡ 8) (λ o vs p. p.1.1.0.1.0.1)

@@ -1,13 +1,11 @@
 -- Rules 12, 20 and 21: the delay's rule, the table of zeros, a fresh table, and what making answers.
-use Rattle.std.specs.Prelude.{Bool, true, false, cond, List, ℕ, zero, suc, eqb, ℤ, pos, negsuc, length, replicate, Float}
+use Rattle.std.specs.Prelude.{false, cond, List, ℕ, zero, suc, eqb, ℤ, pos, negsuc, length, replicate}
 use Rattle.std.specs.Int.Signed.{quot_z}
 use Rattle.laws.specs.Float64.{f0}
 use Rattle.laws.specs.Lists.{padded}
 use Rattle.matching.specs.declared.Numbers.{Numbers}
-use Rattle.filter.specs.declared.FilterSettings.{FilterSettings}
 use Rattle.parts.specs.declared.TrackerConfig.{TrackerConfig}
 use Rattle.parts.specs.declared.TrackedObject.{TrackedObject}
-use Rattle.parts.specs.declared.PastDetection.{PastDetection}
 use Rattle.parts.specs.declared.ReidCounter.TheVariants.{Absent}
 use Rattle.parts.specs.declared.PermanentId.TheVariants.{Unissued}
 use Rattle.parts.specs.declared.LastDistance.TheVariants.{Never}

@@ -1,5 +1,5 @@
 -- Rule 3: the sizes.
-use Rattle.std.specs.Prelude.{Bool, true, ◌&&◌, ℕ, leb, ℤ, pos, negsuc}
+use Rattle.std.specs.Prelude.{Bool, true, ◌&&◌, ℕ, leb, ℤ, pos}
 use Rattle.std.specs.Int.Signed.{le_z, lt_z}
 use Rattle.parts.specs.declared.TrackerConfig.{TrackerConfig}
 use Rattle.parts.specs.declared.ReidCounter.{ReidCounter}

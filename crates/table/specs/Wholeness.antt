@@ -1,5 +1,5 @@
 -- Rule 14: when a table is whole.
-use Rattle.std.specs.Prelude.{Bool, true, false, not, ◌&&◌, ◌||◌, List, ℕ, zero, suc, ◌+◌, leb, ltb, eqb, ℤ, pos, negsuc, length, get_or, take}
+use Rattle.std.specs.Prelude.{Bool, true, not, ◌&&◌, List, ℕ, zero, suc, ◌+◌, leb, ltb, eqb, ℤ, pos, negsuc, get_or, take}
 use Rattle.laws.specs.Lists.{any, holds}
 use Rattle.matching.specs.declared.Numbers.{Numbers}
 use Rattle.parts.specs.declared.TrackerConfig.{TrackerConfig}

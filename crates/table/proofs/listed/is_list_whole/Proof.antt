@@ -1,9 +1,6 @@
 -- `table::listed::is_list_whole` meets its contract: the names are asked for where the count fits.
-use mathlib.Core.Path.{◌≡◌}
-use native.Mathlib.Omega.{arith}
 use borrow.Author.Tests.{le-leb, lt-leb}
 use borrow.Author.Rules.{rules}
-use lib.ListN.{length, length-map}
 use Rattle.table.proofs.listed.is_list_whole.Statement.{statement}
 use Rattle.table.proofs.listed.is_list_whole.Tie as tie
 
@@ -14,10 +11,7 @@ slice_bounds-are_names-end : tie.Need-slice_bounds-are_names-end
 slice_bounds-are_names-end c = search rules
 
 are_names-requires : tie.Need-are_names-requires
-are_names-requires c κs =
-    let s = c in
-    let all : length s.args.list.at ≡ 64 = s.well_formed.0.1.1.0.1.0.1 in
-    omega (arith, c.if-n-gt64.false)
+are_names-requires c κs = search rules
 
 returns : tie.Need-returns
 returns c = rw (c.are_names.ensures, le-leb _ 64 c.if-n-gt64.false)

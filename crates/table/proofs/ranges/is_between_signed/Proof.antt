@@ -8,9 +8,7 @@ both-requires : tie.Need-both-requires
 both-requires c κs = search rules
 
 returns : tie.Need-returns
-returns c =
-    let s = c in
-    rw (c.both.ensures, to_z-of_z s.fits.low, to_z-of_z s.fits.z, to_z-of_z s.fits.high)
+returns c = rw (c.both.ensures, to_z-of_z c.ranges.low, to_z-of_z c.ranges.z, to_z-of_z c.ranges.high)
 
 pub is_between_signed_spec : {M : Type 1} → statement M
 is_between_signed_spec = tie.close (tie.spec both-requires returns)

@@ -1,5 +1,7 @@
 -- `table::ranges::is_counter_between` meets its contract: an absent counter passes, and a present one is compared.
 use borrow.Author.Rules.{rules}
+use mir.Syntax.{w32}
+use mir.Val.{SFits}
 use mir.Facts.{to_z-of_z}
 use Rattle.table.specs.Ranges.{reid_between}
 use Rattle.table.proofs.ranges.is_counter_between.Statement.{statement}
@@ -16,19 +18,20 @@ is_between_signed-requires c κs = search rules
 
 returns-in-Absent : tie.Need-returns-in-Absent
 unfolding reid_between
-returns-in-Absent c = rw c.enum_told-1.given.1
+returns-in-Absent c = rw c.in-Absent.is
+
+present-fits : (c : tie.After-is_between_signed) → SFits w32 c.in-Present.z
+present-fits c = search rules
 
 returns-in-Present : tie.Need-returns-in-Present
 unfolding reid_between
 returns-in-Present c =
-    let told = c.before in
-    let s = told in
     rw (
       c.is_between_signed.ensures,
-      to_z-of_z s.fits.low,
-      to_z-of_z s.fits.high,
-      to_z-of_z (record { sfits = told.known_told-1.given.0.1 }),
-      told.counter-1.given.1,
+      to_z-of_z c.ranges.low,
+      to_z-of_z c.ranges.high,
+      to_z-of_z (present-fits c),
+      c.in-Present.is,
     )
 
 pub is_counter_between_spec : {M : Type 1} → statement M

@@ -17,7 +17,7 @@ settings-pass c = sym c.are_settings_whole.ensures ∙ not-false _ c.if-not-are_
 
 counts-pass : (c : tie.Else-not-are_counts_whole) →
     let t = c.args.t in
-    counts_whole t.config-1 t.counts-1 ≡ true
+    counts_whole t.config t.counts ≡ true
 counts-pass c = sym c.are_counts_whole.ensures ∙ not-false _ c.if-not-are_counts_whole.false-raw
 
 returns-then-not-are_settings_whole : tie.Need-returns-then-not-are_settings_whole
@@ -34,9 +34,9 @@ returns-then-not-are_counts_whole c = rw (settings-pass c.before.before, sym c.a
 are_records_whole-requires : tie.Need-are_records_whole-requires
 are_records_whole-requires c κs =
     let t = c.args.t in
-    let settings = settings_facts t.config-1 (settings_whole_lem t.config-1 (settings-pass c.before.before)).0 in
-    let counts = counts_facts t.config-1 t.counts-1 (counts-pass c) in
-    (settings.points.1, settings.history, counts.frames, omega (arith, settings.capacity.1, counts.records-1))
+    let settings = settings_facts t.config (settings_whole_lem t.config (settings-pass c.before.before)).0 in
+    let counts = counts_facts t.config t.counts (counts-pass c) in
+    (settings.points.1, settings.history, counts.frames, omega (arith, settings.capacity.1, counts.records))
 
 returns-then-not-are_records_whole : tie.Need-returns-then-not-are_records_whole
 unfolding whole_table
