@@ -15,7 +15,7 @@ match_detections_and_objects-requires c κs = search rules
 
 returns : tie.Need-returns
 unfolding second_pass
-returns c = rw (← c.rows_of_lem.ensures, ← c.columns_of-used_cols.ensures) c.match_detections_and_objects.ensures
+returns c = rw (← c.rows_of-used_rows.ensures, ← c.columns_of-used_cols.ensures) c.match_detections_and_objects.ensures
 
 pub second_pass_spec : {M : Type 1} → statement M
 second_pass_spec = tie.close (tie.spec rows_of-used_rows-requires columns_of-used_cols-requires match_detections_and_objects-requires returns)

@@ -50,7 +50,7 @@ is_gone-requires c κs = search rules
 
 -- the record that the code read
 here : (c : tie.In-loop-i invariant-loop-i decreases-loop-i)
-    → let a = (given c.before).args in get_or a.t2 c.loop-i.i blank ≡ get_or a.t2 c.loop-i.i zero_object
+    → let a = (given c.before).args in get_or a.records c.loop-i.i blank ≡ get_or a.records c.loop-i.i zero_object
 here c =
     let s = given c.before in
     let all : length s.args.records ≡ 64 = s.well_formed.1.0.1.0.1 in
@@ -71,7 +71,7 @@ loop-i-preserved-then-is_gone c =
     let l = c.before.before.before.before in
     let a = (given l).args in
     let size = l.layout_of-at.result.size in
-    let e = leaves (stays_at a.config a.t2) size a.t2 a.s-1.now l.loop-i.i (ap not (sym (answered c.before) ∙ c.if-is_gone.true)) in
+    let e = leaves (stays_at a.config a.records) size a.records a.s.now l.loop-i.i (ap not (sym (answered c.before) ∙ c.if-is_gone.true)) in
     (search rules, rw (add-one, e) l.loop-i.invariant.1, rw (add-one, e) l.loop-i.invariant.2, rw (add-one, e) l.loop-i.invariant.3)
 
 abbrev size_of : (l : tie.At-loop-i invariant-loop-i decreases-loop-i) → l.layout_of-at.result.size ≡ block_size (given l).args.config
@@ -85,7 +85,7 @@ space : (c : tie.In-loop-i invariant-loop-i decreases-loop-i)
 space c =
     let l = c.before in
     let a = (given l).args in
-    room (stays_at a.config a.t2) l.layout_of-at.result.size a.t2 a.s-1.now l.loop-i.i c.loop-i-test.true (whole l) l.loop-i.invariant.1 l.loop-i.invariant.3
+    room (stays_at a.config a.records) l.layout_of-at.result.size a.records a.s.now l.loop-i.i c.loop-i-test.true (whole l) l.loop-i.invariant.1 l.loop-i.invariant.3
 
 offset_bounds-kept-k : tie.Need-offset_bounds-kept-k invariant-loop-i decreases-loop-i
 offset_bounds-kept-k c = let h = space c.before.before.before in record { fits = omega arith }
@@ -120,13 +120,13 @@ loop-i-preserved c =
     let l = t.before in
     let a = (given l).args in
     let size = l.layout_of-at.result.size in
-    let p = stays_at a.config a.t2 in
+    let p = stays_at a.config a.records in
     let stay = ap not (sym (answered moved.before.before.before) ∙ moved.if-is_gone.false) in
-    let all : length a.t2 ≡ 64 = (given l).well_formed.1.0.1.0.1 in (
+    let all : length a.records ≡ 64 = (given l).well_formed.1.0.1.0.1 in (
       search rules,
-      rw (add-one l.loop-i.k, add-one l.loop-i.i, one_more p size a.t2 a.s-1.now l.loop-i.i stay) (ap suc l.loop-i.invariant.1),
-      rw add-one (record_moved p size a.t2 a.s-1.now l.loop-i.i stay (omega arith) l.loop-i.invariant.1 l.loop-i.invariant.2 (here t)),
-      rw add-one (block_moved p size a.t2 a.s-1.now l.loop-i.i stay (space t) l.loop-i.invariant.1 l.loop-i.invariant.3 moved.move_down.ensures),
+      rw (add-one l.loop-i.k, add-one l.loop-i.i, one_more p size a.records a.s.now l.loop-i.i stay) (ap suc l.loop-i.invariant.1),
+      rw add-one (record_moved p size a.records a.s.now l.loop-i.i stay (omega arith) l.loop-i.invariant.1 l.loop-i.invariant.2 (here t)),
+      rw add-one (block_moved p size a.records a.s.now l.loop-i.i stay (space t) l.loop-i.invariant.1 l.loop-i.invariant.3 moved.move_down.ensures),
     )
 
 shape_of-s : tie.Need-shape_of-s invariant-loop-i decreases-loop-i
@@ -135,13 +135,13 @@ shape_of-s c =
     let a = (given l).args in
     let size = l.layout_of-at.result.size in
     let front = le_trans (mul-le-mul_right size l.loop-i.invariant.0) (whole l) in
-    rw l.loop-i.invariant.3 (moved_length (stays_at a.config a.t2) size a.t2 a.s-1.now l.loop-i.i front)
+    rw l.loop-i.invariant.3 (moved_length (stays_at a.config a.records) size a.records a.s.now l.loop-i.i front)
 
 returns : tie.Need-returns invariant-loop-i decreases-loop-i
 returns c =
     let l = c.before in
     let a = (given l).args in
-    as_kept a.config a.t2 a.s-1.now a.n (size_of l) (omega arith) l.loop-i.invariant.1 l.loop-i.invariant.2 l.loop-i.invariant.3
+    as_kept a.config a.records a.s.now a.n (size_of l) (omega arith) l.loop-i.invariant.1 l.loop-i.invariant.2 l.loop-i.invariant.3
 
 pub drop_gone_spec : {M : Type 1} → statement M
 drop_gone_spec =

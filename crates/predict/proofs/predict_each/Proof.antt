@@ -49,9 +49,9 @@ here : (c : tie.In-loop-i invariant-loop-i decreases-loop-i)
 here c =
     let l = c.before in
     let a = (given l).args in
-    let all : length a.t2 ≡ 64 = (given l).well_formed.1.0.1.0.1 in
-    let same = records_long a.config a.t2 a.s-1.now l.loop-i.i (omega arith) l.loop-i.invariant.1 in
-    read l.loop-i.records l.loop-i.i (omega arith) ∙ record_unmoved a.config a.t2 a.s-1.now l.loop-i.i l.loop-i.invariant.1
+    let all : length a.records ≡ 64 = (given l).well_formed.1.0.1.0.1 in
+    let same = records_long a.config a.records a.s.now l.loop-i.i (omega arith) l.loop-i.invariant.1 in
+    read l.loop-i.records l.loop-i.i (omega arith) ∙ record_unmoved a.config a.records a.s.now l.loop-i.i l.loop-i.invariant.1
 
 abbrev size_of : (l : tie.At-loop-i invariant-loop-i decreases-loop-i) → l.layout_of-at.result.size ≡ block_size (given l).args.config
 size_of l = ap (λ (r : Layout). r.size) l.layout_of-at.ensures
@@ -64,8 +64,8 @@ inside : (c : tie.In-loop-i invariant-loop-i decreases-loop-i)
 inside c =
     let l = c.before in
     let a = (given l).args in (
-      block_inside a.config a.t2 a.s-1.now l.loop-i.i (size_of l) c.loop-i-test.true (given l).requires.2,
-      floats_long a.config a.t2 a.s-1.now l.loop-i.i l.loop-i.invariant.0 (given l).requires.2 l.loop-i.invariant.2,
+      block_inside a.config a.records a.s.now l.loop-i.i (size_of l) c.loop-i-test.true (given l).requires.2,
+      floats_long a.config a.records a.s.now l.loop-i.i l.loop-i.invariant.0 (given l).requires.2 l.loop-i.invariant.2,
     )
 
 overflow_mul-start : tie.Need-overflow_mul-start invariant-loop-i decreases-loop-i
@@ -119,16 +119,16 @@ loop-i-preserved c =
     let l = t.before in
     let a = (given l).args in
     let object = called.predict-next.ensures.0 ∙ ap (object_predicted a.config) (here t) in
-    let all : length a.t2 ≡ 64 = (given l).well_formed.1.0.1.0.1 in (
+    let all : length a.records ≡ 64 = (given l).well_formed.1.0.1.0.1 in (
       search rules,
-      rw add-one (record_predicted a.config a.t2 a.s-1.now l.loop-i.i (omega arith) l.loop-i.invariant.1 object),
-      rw add-one (block-predicted a.config a.t2 a.s-1.now l.loop-i.i (size_of l) (inside t).0 l.loop-i.invariant.2 called.predict-next.ensures.1 refl),
+      rw add-one (record_predicted a.config a.records a.s.now l.loop-i.i (omega arith) l.loop-i.invariant.1 object),
+      rw add-one (block-predicted a.config a.records a.s.now l.loop-i.i (size_of l) (inside t).0 l.loop-i.invariant.2 called.predict-next.ensures.1 refl),
     )
 
 shape_of-s : tie.Need-shape_of-s invariant-loop-i decreases-loop-i
 shape_of-s c =
     let a = (given c.before).args in
-    floats_long a.config a.t2 a.s-1.now c.loop-i.i c.loop-i.invariant.0 (given c.before).requires.2 c.loop-i.invariant.2
+    floats_long a.config a.records a.s.now c.loop-i.i c.loop-i.invariant.0 (given c.before).requires.2 c.loop-i.invariant.2
 
 returns : tie.Need-returns invariant-loop-i decreases-loop-i
 returns c =

@@ -20,7 +20,7 @@ fit : (d : tie.After-drop_gone-kept) → d.drop_gone-kept.result.count ≤ 64
 fit d =
     let a = (given d).args in
     let p = (given d).requires in
-    omega (arith, p.fit, few a.t.config a.t.counts.records a.t.records a.s-1.now p.room d.drop_gone-kept.ensures.0 d.drop_gone-kept.ensures.1)
+    omega (arith, p.fit, few a.t.config a.t.counts.records a.t.records a.s.now p.room d.drop_gone-kept.ensures.0 d.drop_gone-kept.ensures.1)
 
 sort_out-alive-requires : tie.Need-sort_out-alive-requires
 sort_out-alive-requires c κs = fit c.before.before.before
@@ -39,8 +39,8 @@ predict_each-predicted-requires c κs =
     let e = d.drop_gone-kept.ensures in (
       p.sizes,
       fit d,
-      floats-room a.t.config a.t.counts.records a.t.records a.s-1.now p.room e.0 e.1,
-      kept_ranges a.t.config a.t.counts.records a.t.records a.s-1.now p.room e.0 e.1 p.ranges,
+      floats-room a.t.config a.t.counts.records a.t.records a.s.now p.room e.0 e.1,
+      kept_ranges a.t.config a.t.counts.records a.t.records a.s.now p.room e.0 e.1 p.ranges,
     )
 
 no_numbers-none-requires : tie.Need-no_numbers-none-requires
@@ -68,17 +68,17 @@ returns c =
     let a = (given d).args in
     let room = (given d).requires.room in
     let e = d.drop_gone-kept.ensures in
-    let places = sorted a.t.config a.t.counts.records a.t.records a.s-1.now room e.0 e.1 in (
+    let places = sorted a.t.config a.t.counts.records a.t.records a.s.now room e.0 e.1 in (
       rw (
         ap (λ (k : Kept). k.count) e.0,
-        each.predict_each-predicted.ensures.0 ∙ records-predicted a.t.config a.t.counts.records a.t.records a.s-1.now room e.0 e.1,
+        each.predict_each-predicted.ensures.0 ∙ records-predicted a.t.config a.t.counts.records a.t.records a.s.now room e.0 e.1,
         alive.sort_out-alive.ensures ∙ places Alive,
         initializing.sort_out-initializing.ensures ∙ places Initializing,
         dead.sort_out-dead.ensures ∙ places Dead,
         c.no_numbers-none.ensures,
         c.no_candidates-candidates.ensures,
       ),
-      each.predict_each-predicted.ensures.1 ∙ floats-predicted a.t.config a.t.counts.records a.t.records a.s-1.now room e.0 e.1,
+      each.predict_each-predicted.ensures.1 ∙ floats-predicted a.t.config a.t.counts.records a.t.records a.s.now room e.0 e.1,
     )
 
 pub predict_table_spec : {M : Type 1} → statement M

@@ -46,7 +46,7 @@ answered : (c : tie.After-stands_in invariant-loop-i decreases-loop-i)
     → let s = c in
     c.stands_in.result ≡ stands s.args.config s.args.sort s.args.records c.loop-i.i
 answered c =
-    let s = c.before.before.before.before in
+    let s = c in
     let all : length s.args.records ≡ 64 = s.well_formed.1.1.0.1.0.1 in
     c.stands_in.ensures ∙ ap (belongs s.args.config s.args.sort) (read s.args.records c.loop-i.i (omega arith))
 
@@ -54,7 +54,7 @@ answered c =
 room : (c : tie.Then-stands_in invariant-loop-i decreases-loop-i) → c.loop-i.count ≤ 63
 room c =
     let a = c.args in
-    omega (arith, at_most (stands a.config a.sort a.t3) c.loop-i.i)
+    omega (arith, at_most (stands a.config a.sort a.records) c.loop-i.i)
 
 offset_bounds-at-count : tie.Need-offset_bounds-at-count invariant-loop-i decreases-loop-i
 offset_bounds-at-count c = record { fits = omega (arith, room c) }
@@ -75,7 +75,7 @@ loop-i-preserved : tie.Need-loop-i-preserved invariant-loop-i decreases-loop-i
 loop-i-preserved c =
     let a = c.args in
     let loop = c.loop-i in
-    let p = stands a.config a.sort a.t3 in
+    let p = stands a.config a.sort a.records in
     let told = sym (answered c.before) in
     ⊎_elim
     (λ w. (omega arith, rw (w.1, w.2) (below_joins 64 p loop.i (omega arith) (told ∙ w.0.taken) loop.invariant.1)))

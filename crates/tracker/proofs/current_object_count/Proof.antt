@@ -26,7 +26,7 @@ whole c = sym c.is_whole.ensures ∙ not-false _ c.if-not-is_whole.false-raw
 active_count-active-requires : tie.Need-active_count-active-requires
 active_count-active-requires c κs =
     let f = whole_facts c.args.t (whole c) in
-    omega (arith, f.counts-1.records, f.settings.capacity.1)
+    omega (arith, f.counts.records, f.settings.capacity.1)
 
 returns : tie.Need-returns
 unfolding current_answer first_due

@@ -21,7 +21,7 @@ returns-then-due-ne0 c =
     let e = ne_eqb (first_due (predict_checks s.t (length s.storage-1.now))) 0 (λ z. omega (arith, c.if-due-ne0.true, call.ensures, z)) in
     (rw (call.ensures, e), rw e)
 
-none-due : (c : tie.Else-due-ne0) → let a = c.args in first_due (predict_checks a.t (length a.storage-1.now)) ≡ 0
+none-due : (c : tie.Else-due-ne0) → let a = c.args in first_due (predict_checks a.t (length a.storage.now)) ≡ 0
 none-due c = omega (arith, c.predict_refusal-due.ensures, c.if-due-ne0.false)
 
 predict_table-stepped-requires : tie.Need-predict_table-stepped-requires

@@ -26,12 +26,12 @@ unfolding reid_answer reid_storage reid_active
 returns-then-refusal-ne0 c =
     let a = (given c.before).args in
     let call = c.reid_refusal-refusal in
-    let e = ne_eqb (first_due (reid_checks a.t (length a.storage-1.now) (length a.distances.now) (length a.active-1.now))) 0 (λ z. omega (arith, c.if-refusal-ne0.true, call.ensures, z)) in
+    let e = ne_eqb (first_due (reid_checks a.t (length a.storage.now) (length a.distances.now) (length a.active.now))) 0 (λ z. omega (arith, c.if-refusal-ne0.true, call.ensures, z)) in
     (rw (call.ensures, e), (rw e, rw e))
 
 -- what the core and the list lean on
 asked : (c : tie.Else-refusal-ne0) → let a = (given c.before).args in
-    reid.Ready a.t (length a.storage-1.now) (length a.distances.now) × (a.t.counts.records ≤ length a.active-1.now)
+    reid.Ready a.t (length a.storage.now) (length a.distances.now) × (a.t.counts.records ≤ length a.active.now)
 asked c =
     let b = given c.before in
     let all : length b.args.t.records ≡ 64 = b.well_formed.0.1.1.0.1.0.1 in
@@ -45,7 +45,7 @@ list_active-count-requires c κs =
     let core = c.before.before.before.before.before in
     let a = (given core.before.before.before).args in
     let p = asked core.before.before in
-    rw core.reid_table-merged.ensures.0 (omega (arith, p.0.fit, p.1, records_fall a.t a.storage-1.now a.distances.now))
+    rw core.reid_table-merged.ensures.0 (omega (arith, p.0.fit, p.1, records_fall a.t a.storage.now a.distances.now))
 
 shape_of-storage : tie.Need-shape_of-storage
 shape_of-storage c = search rules
@@ -60,7 +60,7 @@ returns c =
     let test = core.before.before in
     let a = (given test.before).args in
     let r =
-    reid_answered a.t a.storage-1.now a.distances.now a.active-1.now test.reid_refusal-refusal.ensures test.if-refusal-ne0.false
+    reid_answered a.t a.storage.now a.distances.now a.active.now test.reid_refusal-refusal.ensures test.if-refusal-ne0.false
     core.reid_table-merged.ensures.0 core.reid_table-merged.ensures.1 listed.list_active-count.ensures.0 listed.list_active-count.ensures.1 in
     (r.0, (r.1, r.2))
 

@@ -24,10 +24,10 @@ whole : (c : tie.Else-not-is_whole) → whole_table c.args.t ≡ true
 whole c = sym c.is_whole.ensures ∙ not-false _ c.if-not-is_whole.false-raw
 
 overflow_sub-issued : tie.Need-overflow_sub-issued
-overflow_sub-issued c = omega (arith, (whole_facts c.args.t (whole c.before)).counts-1)
+overflow_sub-issued c = omega (arith, (whole_facts c.args.t (whole c.before)).counts)
 
 overflow_cast-issued : tie.Need-overflow_cast-issued
-overflow_cast-issued c = record { fits = omega (arith, (whole_facts c.args.t (whole c.before)).counts-1) }
+overflow_cast-issued c = record { fits = omega (arith, (whole_facts c.args.t (whole c.before)).counts) }
 
 returns : tie.Need-returns
 unfolding total_answer first_due

@@ -26,7 +26,7 @@ given e = e.before.before.before.before.before.before.before
 abbrev lent : tie.Start invariant-loop-i decreases-loop-i → Frame
 lent b = let a = b.args in frame a.period a.points.now a.scores.now a.has_scores.now a.distances.now
 
-passing : (b : tie.Start invariant-loop-i decreases-loop-i) → let a = b.args in Passing a.config (lent b) a.picks a.counts a.t2 a.s-1.now
+passing : (b : tie.Start invariant-loop-i decreases-loop-i) → let a = b.args in Passing a.config (lent b) a.picks a.counts a.records a.s.now
 passing b =
     let p = b.requires in
     record { fits = p.0; holding = p.1; all = b.well_formed.1.0.1.0.1; rows = p.4; cols = p.5 }

@@ -13,7 +13,7 @@ given l = l.before.before.before.before.before
 
 lends : (l : tie.After-layout_of-at)
     → let a = (given l).args in
-    Lending a.config l.layout_of-at.result (frame a.period a.points.now a.scores.now a.has_scores.now []) a.s-1.now a.k a.d
+    Lending a.config l.layout_of-at.result (frame a.period a.points.now a.scores.now a.has_scores.now []) a.s.now a.k a.d
 lends l = let p = (given l).requires in record { layout = l.layout_of-at.ensures; fits = p.0; few = p.1; room = p.2 }
 
 abbrev laid : tie.After-part_of-marks → tie.After-layout_of-at

@@ -37,11 +37,11 @@ count l = length-take-le (given l).args.left.count (given l).args.left.at (liste
 -- there is room for them all
 ready : (l : tie.At-loop-i invariant-loop-i decreases-loop-i)
     → let a = (given l).args in
-    Openable a.config (frame a.period a.points.now a.scores.now a.has_scores.now []) a.s-1.now (found a.config a.t2 a.s-1.now a.counts) (numbers a.left)
+    Openable a.config (frame a.period a.points.now a.scores.now a.has_scores.now []) a.s.now (found a.config a.records a.s.now a.counts) (numbers a.left)
 ready l =
     let a = (given l).args in
     let p = (given l).requires in
-    openable a.s-1.now a.t2 a.counts a.left p.0 (listed l) p.3 p.2
+    openable a.s.now a.records a.counts a.left p.0 (listed l) p.3 p.2
 
 loop-i-init : tie.Need-loop-i-init invariant-loop-i decreases-loop-i
 unfolding through
@@ -91,7 +91,7 @@ loop-i-preserved c =
     let called = c.before.before.before.before in
     let l = called.before.before.before.before in
     let a = (given l).args in
-    let all : length a.t2 ≡ 64 = (given l).well_formed.1.0.1.0.1 in
+    let all : length a.records ≡ 64 = (given l).well_formed.1.0.1.0.1 in
     let h : l.loop-i.i < length (numbers a.left) = omega (arith, count l) in
     let d = get_or-take a.left.count a.left.at l.loop-i.i 0 (omega arith) in (
       omega arith,

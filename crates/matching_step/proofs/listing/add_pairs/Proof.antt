@@ -108,13 +108,13 @@ loop-i-preserved c =
     let l = t.before.before in
     let a = (given l).args in
     let k = get_or a.picks.cols l.loop-i.i 0 in
-    let many : length a.t1 ≡ 32 = (given l).well_formed.0.1.0.1 in
-    let all : length a.t3 ≡ 64 = (given l).well_formed.1.1.0.1.0.1 in
-    let front = length-take-le a.start a.t1 (omega arith) in
-    let object = read a.t3 k (omega (arith, chosen t)) in
-    let pair = pair_of a.t3 (frame 0 [] [] [] a.distances.now) a.n a.pass in
-    let same = pair_is a.t3 (frame 0 [] [] [] a.distances.now) a.n a.pass (pick_at a.picks l.loop-i.i) object in
-    (pair_put (take a.start a.t1) pair a.picks l.loop-i.i 32 no_pair (omega arith) (omega arith) l.loop-i.invariant.0 same, omega arith)
+    let many : length a.pairs ≡ 32 = (given l).well_formed.0.1.0.1 in
+    let all : length a.records ≡ 64 = (given l).well_formed.1.1.0.1.0.1 in
+    let front = length-take-le a.start a.pairs (omega arith) in
+    let object = read a.records k (omega (arith, chosen t)) in
+    let pair = pair_of a.records (frame 0 [] [] [] a.distances.now) a.n a.pass in
+    let same = pair_is a.records (frame 0 [] [] [] a.distances.now) a.n a.pass (pick_at a.picks l.loop-i.i) object in
+    (pair_put (take a.start a.pairs) pair a.picks l.loop-i.i 32 no_pair (omega arith) (omega arith) l.loop-i.invariant.0 same, omega arith)
 
 returns : tie.Need-returns invariant-loop-i decreases-loop-i
 returns c =

@@ -16,10 +16,10 @@ abbrev lent : tie.Start → Frame
 lent b = frame 0 [] [] [] b.args.distances.now
 
 -- each list names columns of the matrix, whichever of the two a pass is given
-listed : (b : tie.Start) → let l = b.args.t.lists in EachBelow 64 l.alive-1.count l.alive-1.at × EachBelow 64 l.initializing-1.count l.initializing-1.at
+listed : (b : tie.Start) → let l = b.args.t.lists in EachBelow 64 l.alive.count l.alive.at × EachBelow 64 l.initializing.count l.initializing.at
 listed b =
     let p = b.requires in
-    (λ i h. omega (arith, p.fit, p.alive-1.1 i h), λ i h. omega (arith, p.fit, p.initializing-1.1 i h))
+    (λ i h. omega (arith, p.fit, p.alive.1 i h), λ i h. omega (arith, p.fit, p.initializing.1 i h))
 
 first_pass-first-requires : tie.Need-first_pass-first-requires
 first_pass-first-requires c κs = search (rules, (given c).requires, listed (given c))

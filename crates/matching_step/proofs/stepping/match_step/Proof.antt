@@ -39,7 +39,7 @@ second-listed b = rw (b.requires.1, picked_of (second_hits b.args.t (length b.ar
 abbrev Left : tie.Start → (Table → List Float → ℕ → Frame → State) → Stepped → List Float → Type 0
 Left b after r g =
     let a = b.args in
-    Put a.t.config a.t.records a.s-1.now (after a.t a.s-1.now (length a.has_scores.now) (lent b)) r.records-1 r.counts g
+    Put a.t.config a.t.records a.s.now (after a.t a.s.now (length a.has_scores.now) (lent b)) r.records r.counts g
 
 first : (one : tie.After-hit_each-one) → Left (given one.before) after_first one.hit_each-one.result one.hit_each-one.new.1.1.1.0
 first one =

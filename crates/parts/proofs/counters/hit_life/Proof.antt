@@ -26,7 +26,7 @@ counter : (c : tie.After-smaller_of-counter) →
     let s = c in
     to_z w32 (of_z w32 c.smaller_of-counter.result) ≡ raised s.args.period s.args.hit_counter_max s.args.l
 counter c =
-    let s = c.before.before.before.before in
+    let s = c in
     rw (
       to_z-of_z (record { sfits = c.smaller_of-counter.type_inv }),
       c.smaller_of-counter.ensures,

@@ -73,7 +73,7 @@ returns-then-detections-gt32 c =
 do_lengths_fit-requires : tie.Need-do_lengths_fit-requires
 do_lengths_fit-requires c κs =
     let f = facts c.before.before.before in
-    (sizes_of _ f.in-range, omega (arith, f.counts-1.records, f.settings.capacity.1), c.if-detections-gt32.false)
+    (sizes_of _ f.in-range, omega (arith, f.counts.records, f.settings.capacity.1), c.if-detections-gt32.false)
 
 returns-then-not-do_lengths_fit : tie.Need-returns-then-not-do_lengths_fit
 unfolding first_due

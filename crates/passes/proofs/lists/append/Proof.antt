@@ -30,7 +30,7 @@ loop-i-init : tie.Need-loop-i-init invariant-loop-i decreases-loop-i
 loop-i-init c =
     let s = c.before in
     let held : Stands 64 (numbers s.args.front ++ []) s.args.front.at (s.args.front.count + 0) =
-    rw append-nil (omega (arith, front_long s), ap (λ (l : Numbers). l.at-1) s.requires.2) in
+    rw append-nil (omega (arith, front_long s), ap (λ (l : Numbers). l.at) s.requires.2) in
     (search rules, held)
 
 offset_bounds-list-i : tie.Need-offset_bounds-list-i invariant-loop-i decreases-loop-i

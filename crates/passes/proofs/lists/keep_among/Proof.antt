@@ -54,7 +54,7 @@ answered : (c : tie.After-is_among invariant-loop-i decreases-loop-i) →
     let s = c in
     test s (get_or s.args.of.at c.loop-i.i 0) ≡ beq c.is_among.result s.args.wanted
 answered c =
-    let s = c.before.before.before.before.before in
+    let s = c in
     rw c.is_among.ensures (among-asked s.args.wanted (holds (get_or s.args.of.at c.loop-i.i 0) (take s.args.m s.args.list.now)))
 
 -- as many were looked at as turns are done

@@ -73,7 +73,7 @@ shape_of-list : tie.Need-shape_of-list invariant-loop-i decreases-loop-i
 shape_of-list c =
     let l = c in
     let a = l.args in
-    listed_long a.t1 l.loop-i.i a.list.now l.loop-i.invariant.1 (omega (arith, active-few l.loop-i.i a.t1))
+    listed_long a.records l.loop-i.i a.list.now l.loop-i.invariant.1 (omega (arith, active-few l.loop-i.i a.records))
 
 returns : tie.Need-returns invariant-loop-i decreases-loop-i
 returns c =

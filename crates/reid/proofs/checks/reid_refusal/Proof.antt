@@ -55,12 +55,12 @@ overflow_mul-candidates_met c =
     let e = c.before.before in
     let t = e.args.t in
     let f = facts e in
-    let few = le_trans (met_most t.config-1.has_reid_distance t.lists-1.candidates.count) f.candidates-1.count in
-    record { fits = omega (arith, mul-le-mul (rw (← c.candidates_met.ensures) at few) f.old-1.count) }
+    let few = le_trans (met_most t.config.has_reid_distance t.lists.candidates.count) f.candidates.count in
+    record { fits = omega (arith, mul-le-mul (rw (← c.candidates_met.ensures) at few) f.old.count) }
 
 -- the entries that the code asks for
-same_asked : (c : tie.After-struct_known-1) → let t = c.args.t in c.candidates_met.result * t.lists-1.old.count ≡ distances_asked t
-same_asked c = let t = c.args.t in ap (λ (n : ℕ). n * t.lists-1.old.count) c.candidates_met.ensures
+same_asked : (c : tie.After-struct_known-1) → let t = c.args.t in c.candidates_met.result * t.lists.old.count ≡ distances_asked t
+same_asked c = let t = c.args.t in ap (λ (n : ℕ). n * t.lists.old.count) c.candidates_met.ensures
 
 returns-then-distances-candidates_met : tie.Need-returns-then-distances-candidates_met
 unfolding first_due

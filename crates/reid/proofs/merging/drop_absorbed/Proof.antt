@@ -66,7 +66,7 @@ loop-i-preserved-then-leaves c =
     let l = c.before.before.before in
     let a = (given l).args in
     let size = l.layout_of-at.result.size in
-    let e = leaves (stays (gone l)) size a.t2 a.s-1.now l.loop-i.i (ap not (sym c.leaves.ensures ∙ c.if-leaves.true)) in
+    let e = leaves (stays (gone l)) size a.records a.s.now l.loop-i.i (ap not (sym c.leaves.ensures ∙ c.if-leaves.true)) in
     (search rules, rw (add-one, e) l.loop-i.invariant.1, rw (add-one, e) l.loop-i.invariant.2, rw (add-one, e) l.loop-i.invariant.3)
 
 space : (c : tie.In-loop-i invariant-loop-i decreases-loop-i)
@@ -74,7 +74,7 @@ space : (c : tie.In-loop-i invariant-loop-i decreases-loop-i)
 space c =
     let l = c.before in
     let a = (given l).args in
-    room (stays (gone l)) l.layout_of-at.result.size a.t2 a.s-1.now l.loop-i.i c.loop-i-test.true (whole l) l.loop-i.invariant.1 l.loop-i.invariant.3
+    room (stays (gone l)) l.layout_of-at.result.size a.records a.s.now l.loop-i.i c.loop-i-test.true (whole l) l.loop-i.invariant.1 l.loop-i.invariant.3
 
 offset_bounds-records-i : tie.Need-offset_bounds-records-i invariant-loop-i decreases-loop-i
 offset_bounds-records-i c = search rules
@@ -119,12 +119,12 @@ loop-i-preserved c =
     let size = l.layout_of-at.result.size in
     let p = stays (gone l) in
     let stay = ap not (sym moved.leaves.ensures ∙ moved.if-leaves.false) in
-    let all : length a.t2 ≡ 64 = (given l).well_formed.1.0.1.0.1 in (
+    let all : length a.records ≡ 64 = (given l).well_formed.1.0.1.0.1 in (
       search rules,
-      rw (add-one l.loop-i.k, add-one l.loop-i.i, one_more p size a.t2 a.s-1.now l.loop-i.i stay) (ap suc l.loop-i.invariant.1),
+      rw (add-one l.loop-i.k, add-one l.loop-i.i, one_more p size a.records a.s.now l.loop-i.i stay) (ap suc l.loop-i.invariant.1),
       rw add-one
-          (record_moved p size a.t2 a.s-1.now l.loop-i.i stay (omega arith) l.loop-i.invariant.1 l.loop-i.invariant.2 (read a.t2 l.loop-i.i (omega arith))),
-      rw add-one (block_moved p size a.t2 a.s-1.now l.loop-i.i stay (space t) l.loop-i.invariant.1 l.loop-i.invariant.3 moved.move_down.ensures),
+          (record_moved p size a.records a.s.now l.loop-i.i stay (omega arith) l.loop-i.invariant.1 l.loop-i.invariant.2 (read a.records l.loop-i.i (omega arith))),
+      rw add-one (block_moved p size a.records a.s.now l.loop-i.i stay (space t) l.loop-i.invariant.1 l.loop-i.invariant.3 moved.move_down.ensures),
     )
 
 shape_of-s : tie.Need-shape_of-s invariant-loop-i decreases-loop-i
@@ -133,13 +133,13 @@ shape_of-s c =
     let a = (given l).args in
     let size = l.layout_of-at.result.size in
     let front = le_trans (mul-le-mul_right size l.loop-i.invariant.0) (whole l) in
-    rw l.loop-i.invariant.3 (moved_length (stays (gone l)) size a.t2 a.s-1.now l.loop-i.i front)
+    rw l.loop-i.invariant.3 (moved_length (stays (gone l)) size a.records a.s.now l.loop-i.i front)
 
 returns : tie.Need-returns invariant-loop-i decreases-loop-i
 returns c =
     let l = c.before in
     let a = (given l).args in
-    as_staying (gone l) (block_size a.config) a.t2 a.s-1.now a.n (size_of l) (omega arith) l.loop-i.invariant.1 l.loop-i.invariant.2 l.loop-i.invariant.3
+    as_staying (gone l) (block_size a.config) a.records a.s.now a.n (size_of l) (omega arith) l.loop-i.invariant.1 l.loop-i.invariant.2 l.loop-i.invariant.3
 
 pub drop_absorbed_spec : {M : Type 1} → statement M
 drop_absorbed_spec =

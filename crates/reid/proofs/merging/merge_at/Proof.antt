@@ -7,7 +7,7 @@ use Rattle.reid.proofs.Lending.{Lends, from_inside, on_inside, size_most, size_i
 use Rattle.reid.proofs.merging.merge_at.Statement.{statement}
 use Rattle.reid.proofs.merging.merge_at.Tie as tie
 
-lends : (l : tie.After-layout_of-at) → let a = l.args in Lends a.config l.layout_of-at.result a.s-1.now a.a a.b
+lends : (l : tie.After-layout_of-at) → let a = l.args in Lends a.config l.layout_of-at.result a.s.now a.a a.b
 lends l = let p = l.requires in record { layout = l.layout_of-at.ensures; sizes = p.0; from = p.3; on = p.4 }
 
 layout_of-at-requires : tie.Need-layout_of-at-requires

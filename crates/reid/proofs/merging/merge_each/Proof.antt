@@ -99,7 +99,7 @@ loop-i-preserved c =
     let pick = pick_at a.places l.loop-i.i in
     let (row, col) = named t in
     let next = put_merged l.loop-i.invariant.1 (given l).requires.0 pick blank row col called.ensures.0 called.ensures.1 in
-    (search rules, rw (picks_next (merge_one a.config) a.places l.loop-i.i (slots (block_size a.config) a.t2 a.s-1.now a.n)) next)
+    (search rules, rw (picks_next (merge_one a.config) a.places l.loop-i.i (slots (block_size a.config) a.records a.s.now a.n)) next)
 
 shape_of-s : tie.Need-shape_of-s invariant-loop-i decreases-loop-i
 shape_of-s c = let l = c.before.before in put_long l.loop-i.invariant.1 (given l).requires.2
