@@ -13,7 +13,7 @@ pub struct Pair {
     pub distance: f64,
 }
 
-// The pair at i. It keeps the array's elements out of the proof by hand of `put_pairs`.
+// The pair at i.
 fn pair_at(from: [Pair; 32], i: usize) -> Pair
     requires { i < 32 }
     ensures { result ≡ get_or from i blank }
