@@ -2,7 +2,6 @@
 use mathlib.Core.Path.{◌≡◌, refl, ◌∙◌}
 use mathlib.Core.Bool.{Bool, true, false, not, beq, cond}
 use mathlib.Core.List.{[], ◌∷◌, ◌++◌}
-use mathlib.Core.Logic.{⊎_elim}
 use Prim.Native.Nat.{ℕ, ◌≤◌, ◌+◌, ◌-◌}
 use native.Mathlib.Numerals.{add-one}
 use native.Mathlib.Omega.{arith}
@@ -15,6 +14,7 @@ use Rattle.laws.proofs.Standing.{Stands, stands_joins, stands_stays}
 use Rattle.passes.specs.Passes.{among}
 use Rattle.passes.proofs.lists.keep_among.Statement.{statement}
 use Rattle.passes.proofs.lists.keep_among.Tie as tie
+use Rattle.passes.proofs.lists.keep_among.Lts.{then-is_among-wanted, else-is_among-wanted}
 
 abbrev invariant-loop-i : tie.invariant-loop-i
 invariant-loop-i list m wanted from n at₀ count₀ i₀ at count i = (i ≤ n) × Stands 64 (keep (among wanted (take m list)) (take i from)) at count
@@ -51,7 +51,7 @@ among-asked false false = refl
 
 -- what the call says of the number that the code read
 answered : (c : tie.After-is_among invariant-loop-i decreases-loop-i) →
-    let s = c in
+    let s = c.before.before.before.before.before in
     test s (get_or s.args.of.at c.loop-i.i 0) ≡ beq c.is_among.result s.args.wanted
 answered c =
     let s = c in
@@ -92,10 +92,10 @@ loop-i-preserved c =
     let x = get_or from loop.i 0 in
     let next : take (loop.i + 1) from ≡ l ++ (x ∷ []) = rw (add-one loop.i) (take-suc from loop.i 0 (omega (arith, whole s))) in
     let few = looked s loop.i (omega arith) in
-    ⊎_elim
-    (λ w. (omega arith, rw (w.1, w.2, next) (stands_joins 64 (test s) l x (omega arith) (answered c.before ∙ w.0.taken) loop.invariant.1)))
-    (λ w. (omega arith, rw (w.1, w.2, next) (stands_stays 64 (test s) l x (answered c.before ∙ w.0.left) loop.invariant.1)))
-    c.if-is_among-wanted.branch
+    elim c.if-is_among-wanted.branch [
+      then-is_among-wanted w ↦ (omega arith, rw (w.at-is, w.count-is, next) (stands_joins 64 (test s) l x (omega arith) (answered c.before ∙ w.if-is_among-wanted.true) loop.invariant.1))
+    | else-is_among-wanted w ↦ (omega arith, rw (w.at-is, w.count-is, next) (stands_stays 64 (test s) l x (answered c.before ∙ w.if-is_among-wanted.false) loop.invariant.1))
+    ]
 
 returns : tie.Need-returns invariant-loop-i decreases-loop-i
 returns c =
