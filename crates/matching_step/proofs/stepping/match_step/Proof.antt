@@ -41,33 +41,33 @@ Left b after r g =
     let a = b.args in
     Put a.t.config a.t.records a.s.now (after a.t a.s.now (length a.has_scores.now) (lent b)) r.records r.counts g
 
-first : (one : tie.After-hit_each-one) → Left (given one.before) after_first one.hit_each-one.result one.hit_each-one.new.1.1.1.0
+first : (one : tie.After-hit_each-one) → Left (given one.before.before) after_first one.hit_each-one.result one.hit_each-one.new.s
 first one =
-    let b = given one.before in
+    let b = given one.before.before in
     put_first b.args.t b.args.s.now (lent b) b.requires.0 b.requires.1 one.hit_each-one.ensures.0 one.hit_each-one.ensures.1
 
 abbrev pass-one : tie.After-hit_each-two → tie.After-hit_each-one
-pass-one two = two.before.before.before.before.before
+pass-one two = two.before.before.before.before.before.before
 
-second : (two : tie.After-hit_each-two) → Left (given (pass-one two).before) after_second two.hit_each-two.result two.hit_each-two.new.1.1.1.0
+second : (two : tie.After-hit_each-two) → Left (given (pass-one two).before.before) after_second two.hit_each-two.result two.hit_each-two.new.s
 second two =
-    let b = given (pass-one two).before in
+    let b = given (pass-one two).before.before in
     put_second b.args.t b.args.s.now (lent b) b.requires.0 b.requires.1 (first (pass-one two)) two.hit_each-two.ensures.0 two.hit_each-two.ensures.1
 
 abbrev pass-two : tie.After-open_each-three → tie.After-hit_each-two
-pass-two three = three.before.before.before.before.before
+pass-two three = three.before.before.before.before.before.before.before
 
 abbrev begun : tie.After-open_each-three → tie.Start
-begun three = given (pass-one (pass-two three)).before
+begun three = given (pass-one (pass-two three)).before.before
 
-third : (three : tie.After-open_each-three) → Left (begun three) after_opening three.open_each-three.result three.open_each-three.new.1.1.1.0
+third : (three : tie.After-open_each-three) → Left (begun three) after_opening three.open_each-three.result three.open_each-three.new.s
 third three =
     let b = begun three in
     put_third b.args.t b.args.s.now (lent b) b.requires.0 b.requires.1 (second (pass-two three)) three.open_each-three.ensures.0 three.open_each-three.ensures.1
 
 hit_each-one-requires : tie.Need-hit_each-one-requires
 hit_each-one-requires c κs =
-    let b = given c in
+    let b = given c.before in
     let r = b.requires.0 in
     let n = length b.args.has_scores.now in (
       r.fits,
@@ -81,8 +81,8 @@ hit_each-one-requires c κs =
 
 hit_each-two-requires : tie.Need-hit_each-two-requires
 hit_each-two-requires c κs =
-    let one = c.before.before.before.before in
-    let b = given one.before in
+    let one = c.before.before.before.before.before in
+    let b = given one.before.before in
     let r = b.requires.0 in
     let n = length b.args.has_scores.now in
     let put = first one in
@@ -99,8 +99,8 @@ hit_each-two-requires c κs =
 
 open_each-three-requires : tie.Need-open_each-three-requires
 open_each-three-requires c κs =
-    let two = c.before.before.before.before in
-    let b = given (pass-one two).before in
+    let two = c.before.before.before.before.before.before in
+    let b = given (pass-one two).before.before in
     let r = b.requires.0 in
     let t = b.args.t in
     let s = b.args.s.now in

@@ -48,7 +48,7 @@ came : (c : tie.After-decide-decided) →
 came c = record { none = none-given (given c); made = c.decide-decided.ensures }
 
 decided_refusal-refusal-requires : tie.Need-decided_refusal-refusal-requires
-decided_refusal-refusal-requires c κs = askable (came c)
+decided_refusal-refusal-requires c κs = askable (came c.before.before)
 
 refused-requires-then-refusal-ne0 : tie.Need-refused-requires-then-refusal-ne0
 refused-requires-then-refusal-ne0 c κs = search rules
@@ -56,22 +56,22 @@ refused-requires-then-refusal-ne0 c κs = search rules
 returns-then-refusal-ne0 : tie.Need-returns-then-refusal-ne0
 returns-then-refusal-ne0 c =
     let call = c.before.before in
-    matched_decided (came call.before) call.decided_refusal-refusal.ensures c.if-refusal-ne0.true c.refused-then-refusal-ne0.ensures
+    matched_decided (came call.before.before.before) call.decided_refusal-refusal.ensures c.if-refusal-ne0.true c.refused-then-refusal-ne0.ensures
 
 -- ---- no refusal is due
 
 pairs_of-pairs-requires : tie.Need-pairs_of-pairs-requires
-pairs_of-pairs-requires c κs = pairable (came c.before.before.before)
+pairs_of-pairs-requires c κs = pairable (came c.before.before.before.before.before.before.before)
 
 match_step-table-requires : tie.Need-match_step-table-requires
 match_step-table-requires c κs =
     let none = c.before.before.before in
     let d = none.before.before in
-    let b = start (given d).before in
-    startable (came d) none.decided_refusal-refusal.ensures none.if-refusal-ne0.false (b.well_formed.0.1.1.0.1.0.1)
+    let b = start (given d.before.before.before.before).before in
+    startable (came d.before.before.before.before) none.decided_refusal-refusal.ensures none.if-refusal-ne0.false (b.well_formed.0.1.1.0.1.0.1)
 
 overflow_add-count : tie.Need-overflow_add-count
-overflow_add-count c = omega (arith, (pairable (came c.before.before.before.before.before.before.before.before.before)).0)
+overflow_add-count c = omega (arith, (pairable (came c.before.before.before.before.before.before.before.before.before.before.before.before.before)).0)
 
 shape_of-s : tie.Need-shape_of-s
 shape_of-s c = search rules
@@ -81,7 +81,7 @@ returns c =
     let call = c.before.before.before in
     let pairs = call.before.before in
     let none = pairs.before.before in
-    matched-accepted (came none.before.before) none.decided_refusal-refusal.ensures none.if-refusal-ne0.false
+    matched-accepted (came none.before.before.before.before.before.before) none.decided_refusal-refusal.ensures none.if-refusal-ne0.false
     pairs.pairs_of-pairs.ensures call.match_step-table.ensures.0 call.match_step-table.ensures.1
 
 pub match_table_spec : {M : Type 1} → statement M

@@ -18,7 +18,7 @@ add_pairs-front-requires c κs = search rules
 abbrev ahead : tie.Start → List Pair
 ahead b = map (pair_of b.args.records (frame 0 [] [] [] b.args.distances.now) b.args.n 1) (picked b.args.first)
 
-fronted : (c : tie.After-add_pairs-front) → let b = c in take b.args.first.count c.add_pairs-front.result ≡ ahead b
+fronted : (c : tie.After-add_pairs-front) → let b = c in take b.args.first.count c.add_pairs-front.result ≡ ahead b.before.before
 fronted c = in-front 32 no_pair (ahead c.before.before) (length-picked _ c.args.first) c.add_pairs-front.ensures
 
 add_pairs-requires : tie.Need-add_pairs-requires
