@@ -1,5 +1,5 @@
 -- Rules 30 to 33: step 1 on a table with its floats, and its account: who was dropped.
-use Rattle.std.specs.Prelude.{Bool, true, false, not, ◌&&◌, List, map, ℕ, ◌+◌, ◌*◌, ◌<◌, ◌≤◌, pos, length, get_or, Float}
+use Rattle.std.specs.Prelude.{Bool, true, false, not, ◌&&◌, List, map, ℕ, ◌+◌, ◌*◌, ◌≤◌, pos, length, get_or, Float}
 use Rattle.std.specs.Int.Signed.{le_z, lt_z}
 use Rattle.laws.specs.Lists.{below, keep}
 use Rattle.matching.specs.declared.Numbers.{Numbers}

@@ -2,7 +2,6 @@
 use mathlib.Core.Path.{◌≡◌, refl, sym, ◌∙◌, ap}
 use mathlib.Core.Bool.{Bool}
 use mathlib.Core.List.{List}
-use mathlib.Core.Logic.{⊎_elim}
 use Prim.Native.Nat.{ℕ, ◌≤◌, ◌-◌}
 use native.Mathlib.Omega.{arith}
 use borrow.Author.Rules.{rules}
@@ -17,6 +16,7 @@ use Rattle.predict.specs.declared.Sort.{Sort}
 use Rattle.predict.specs.Step.{belongs}
 use Rattle.table.proofs.Reading.{read}
 use Rattle.predict.proofs.sort_out.Statement.{statement}
+use Rattle.predict.proofs.sort_out.Lts.{then-stands_in, else-stands_in}
 use Rattle.predict.proofs.sort_out.Tie as tie
 
 abbrev stands : TrackerConfig → Sort → List TrackedObject → ℕ → Bool
@@ -77,10 +77,10 @@ loop-i-preserved c =
     let loop = c.loop-i in
     let p = stands a.config a.sort a.records in
     let told = sym (answered c.before) in
-    ⊎_elim
-    (λ w. (omega arith, rw (w.1, w.2) (below_joins 64 p loop.i (omega arith) (told ∙ w.0.taken) loop.invariant.1)))
-    (λ w. (omega arith, rw (w.1, w.2) (below_stays 64 p loop.i (told ∙ w.0.left) loop.invariant.1)))
-    c.if-stands_in.branch
+    elim c.if-stands_in.branch [
+      | then-stands_in w ↦ (omega arith, rw (w.at-is, w.count-is) (below_joins 64 p loop.i (omega arith) (told ∙ w.if-stands_in.true) loop.invariant.1))
+      | else-stands_in w ↦ (omega arith, rw (w.at-is, w.count-is) (below_stays 64 p loop.i (told ∙ w.if-stands_in.false) loop.invariant.1))
+    ]
 
 returns : tie.Need-returns invariant-loop-i decreases-loop-i
 returns c =
