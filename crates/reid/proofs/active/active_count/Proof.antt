@@ -1,6 +1,5 @@
 -- `reid::active::active_count` meets its contract: after i turns it has counted the active ones among the first i.
 use mathlib.Core.Path.{◌≡◌, refl, sym, ◌∙◌}
-use mathlib.Core.Logic.{⊎_elim}
 use Prim.Native.Nat.{◌≤◌, ◌<◌, ◌-◌}
 use native.Mathlib.Omega.{arith}
 use borrow.Author.Rules.{rules}
@@ -11,6 +10,7 @@ use Rattle.reid.specs.Step.{active_of}
 use Rattle.reid.proofs.Listing.{active-few, one_more, no_more}
 use Rattle.reid.proofs.active.active_count.Statement.{statement}
 use Rattle.reid.proofs.active.active_count.Tie as tie
+use Rattle.reid.proofs.active.active_count.Lts.{then-is_active, else-is_active}
 
 abbrev invariant-loop-i : tie.invariant-loop-i
 invariant-loop-i n records count₀ i₀ count i = (i ≤ n) × (count ≡ length (active_of i records))
@@ -47,10 +47,16 @@ loop-i-preserved c =
     let l = c in
     let records = l.args.records in
     let h : l.loop-i.i < length records = omega (arith, l.well_formed.0.1.0.1) in
-    ⊎_elim
-    (λ w. (omega arith, rw w.1 (one_more records l.loop-i.i blank h (sym c.is_active.ensures ∙ w.0.taken) l.loop-i.invariant.1)))
-    (λ w. (omega arith, rw w.1 (no_more records l.loop-i.i blank h (sym c.is_active.ensures ∙ w.0.left) l.loop-i.invariant.1)))
-    c.if-is_active.branch
+    elim c.if-is_active.branch [
+      then-is_active w ↦ (
+        omega arith,
+        rw w.count-is (one_more records l.loop-i.i blank h (sym c.is_active.ensures ∙ w.if-is_active.true) l.loop-i.invariant.1),
+      )
+    | else-is_active w ↦ (
+        omega arith,
+        rw w.count-is (no_more records l.loop-i.i blank h (sym c.is_active.ensures ∙ w.if-is_active.false) l.loop-i.invariant.1),
+      )
+    ]
 
 returns : tie.Need-returns invariant-loop-i decreases-loop-i
 returns c =

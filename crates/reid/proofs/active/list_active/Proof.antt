@@ -1,6 +1,5 @@
 -- `reid::active::list_active` meets its contract: in front of the lent list stand the IDs of the active ones among the first i records.
 use mathlib.Core.Path.{◌≡◌, refl, sym, ◌∙◌}
-use mathlib.Core.Logic.{⊎_elim}
 use Prim.Native.Nat.{◌≤◌, ◌<◌, ◌-◌}
 use native.Mathlib.Omega.{arith}
 use borrow.Author.Rules.{rules}
@@ -11,6 +10,7 @@ use Rattle.reid.specs.Step.{active_ids}
 use Rattle.reid.proofs.Listing.{active-few, Listed, listed_long, listed_more, listed_same}
 use Rattle.reid.proofs.active.list_active.Statement.{statement}
 use Rattle.reid.proofs.active.list_active.Tie as tie
+use Rattle.reid.proofs.active.list_active.Lts.{then-is_active, else-is_active}
 
 abbrev invariant-loop-i : tie.invariant-loop-i
 invariant-loop-i n list₀ records count₀ i₀ list count i = (i ≤ n) × Listed records i list₀ list count
@@ -64,10 +64,14 @@ loop-i-preserved c =
     let h : l.loop-i.i < length records = omega (arith, l.well_formed.0.1.0.1) in
     let told = sym c.is_active.ensures in
     let few : length (active_ids l.loop-i.i records) < length list₀ = omega (arith, active-few l.loop-i.i records) in
-    ⊎_elim
-    (λ w. let next = listed_more records l.loop-i.i blank h list₀ l.loop-i.invariant.1 (told ∙ w.0.taken) few in (omega arith, (w.3 ∙ next.0, w.2 ∙ next.1)))
-    (λ w. let same = listed_same records l.loop-i.i blank h list₀ l.loop-i.invariant.1 (told ∙ w.0.left) in (omega arith, (w.2 ∙ same.0, w.1 ∙ same.1)))
-    c.if-is_active.branch
+    elim c.if-is_active.branch [
+      then-is_active w ↦
+        let next = listed_more records l.loop-i.i blank h list₀ l.loop-i.invariant.1 (told ∙ w.if-is_active.true) few in
+        (omega arith, (w.count-is ∙ next.0, w.list-is ∙ next.1))
+    | else-is_active w ↦
+        let same = listed_same records l.loop-i.i blank h list₀ l.loop-i.invariant.1 (told ∙ w.if-is_active.false) in
+        (omega arith, (w.count-is ∙ same.0, w.list-is ∙ same.1))
+    ]
 
 shape_of-list : tie.Need-shape_of-list invariant-loop-i decreases-loop-i
 shape_of-list c =

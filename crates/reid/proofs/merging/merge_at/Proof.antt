@@ -14,19 +14,19 @@ layout_of-at-requires : tie.Need-layout_of-at-requires
 layout_of-at-requires c κs = search rules
 
 overflow_mul-a : tie.Need-overflow_mul-a
-overflow_mul-a c = record { fits = omega (arith, from_inside (lends c.before), c.well_formed) }
+overflow_mul-a c = record { fits = omega (arith, from_inside (lends c), c.well_formed) }
 
 copy_out-from-requires : tie.Need-copy_out-from-requires
-copy_out-from-requires c κs = (size_most (lends c.before), from_inside (lends c.before))
+copy_out-from-requires c κs = (size_most (lends c), from_inside (lends c))
 
 overflow_mul-start : tie.Need-overflow_mul-start
-overflow_mul-start c = record { fits = omega (arith, on_inside (lends c.before.before), c.well_formed) }
+overflow_mul-start c = record { fits = omega (arith, on_inside (lends c.before), c.well_formed) }
 
 overflow_add-end : tie.Need-overflow_add-end
-overflow_add-end c = record { fits = omega (arith, on_inside (lends c.before.before), c.well_formed) }
+overflow_add-end c = record { fits = omega (arith, on_inside (lends c.before), c.well_formed) }
 
 offset_bounds-s-start : tie.Need-offset_bounds-s-start
-offset_bounds-s-start c = record { fits = omega (arith, on_inside (lends c.before.before), c.well_formed) }
+offset_bounds-s-start c = record { fits = omega (arith, on_inside (lends c.before), c.well_formed) }
 
 slice_bounds-merge-count : tie.Need-slice_bounds-merge-count
 slice_bounds-merge-count c = search rules
@@ -35,19 +35,19 @@ slice_bounds-merge-start : tie.Need-slice_bounds-merge-start
 slice_bounds-merge-start c = search rules
 
 slice_bounds-merge-end : tie.Need-slice_bounds-merge-end
-slice_bounds-merge-end c = on_inside (lends c.before.before)
+slice_bounds-merge-end c = on_inside (lends c.before)
 
 slice_bounds-from-end : tie.Need-slice_bounds-from-end
 slice_bounds-from-end c =
-    let l = lends c.before.before.before in
+    let l = lends c.before.before in
     omega (arith, size_most l, copy_long l c.copy_out-from.ensures)
 
 slice_bounds-merge-end-2 : tie.Need-slice_bounds-merge-end-2
-slice_bounds-merge-end-2 c = sym (copy_size (lends c.before.before.before.before) c.copy_out-from.ensures)
+slice_bounds-merge-end-2 c = sym (copy_size (lends c.before.before.before) c.copy_out-from.ensures)
 
 merge-requires : tie.Need-merge-requires
 merge-requires c κs =
-    let l = lends c.before.before.before.before in
+    let l = lends c.before.before.before in
     let p = c.requires in
     (p.0, p.2, p.1, copy_size l c.copy_out-from.ensures ∙ size_is l, on_long l)
 
@@ -58,7 +58,7 @@ returns : tie.Need-returns
 returns c =
     let called = c.merge in
     let copied = c.copy_out-from.ensures in
-    let l = c.before.before.before.before.before.before.before in
+    let l = c.before.before.before.before.before.before in
     let a = l.args in (
       by_blocks (lends l) copied (λ from on. object_merged a.config a.candidate from a.o on) called.ensures.0,
       block_back (lends l) copied (λ from on. block_merged a.config a.candidate from a.o on) c.s-1.given.0 called.ensures.1,

@@ -23,16 +23,6 @@ decreases-loop-i picks from to picked-rows picked-cols rows₀ cols₀ i₀ rows
 abbrev given : tie.At-loop-i invariant-loop-i decreases-loop-i → tie.Start invariant-loop-i decreases-loop-i
 given l = l.before.before.before.before.before
 
--- the pick names entries of the lists
-within : (c : tie.In-loop-i invariant-loop-i decreases-loop-i)
-    → let l = c.before.before in
-    let p = (given l).args.picks in
-    (get_or p.rows l.loop-i.i 0 < 32) × (get_or p.cols l.loop-i.i 0 < 64)
-within c =
-    let l = c.before.before in
-    let p = (given l).requires in
-    (p.1 l.loop-i.i c.loop-i-test.true, p.2 l.loop-i.i c.loop-i-test.true)
-
 loop-i-init : tie.Need-loop-i-init invariant-loop-i decreases-loop-i
 unfolding below
 loop-i-init c = (search rules, refl, refl)
@@ -44,10 +34,10 @@ bounds-picked_rows-i : tie.Need-bounds-picked_rows-i invariant-loop-i decreases-
 bounds-picked_rows-i c = search rules
 
 offset_bounds-from-picked_rows : tie.Need-offset_bounds-from-picked_rows invariant-loop-i decreases-loop-i
-offset_bounds-from-picked_rows c = record { fits = omega (arith, (within c).0) }
+offset_bounds-from-picked_rows c = record { fits = omega (arith, c.requires.1 c.loop-i.i c.loop-i-test.true) }
 
 bounds-from-picked_rows : tie.Need-bounds-from-picked_rows invariant-loop-i decreases-loop-i
-bounds-from-picked_rows c = (within c).0
+bounds-from-picked_rows c = c.requires.1 c.loop-i.i c.loop-i-test.true
 
 offset_bounds-rows-i : tie.Need-offset_bounds-rows-i invariant-loop-i decreases-loop-i
 offset_bounds-rows-i c = search rules
@@ -62,10 +52,10 @@ bounds-picked_cols-i : tie.Need-bounds-picked_cols-i invariant-loop-i decreases-
 bounds-picked_cols-i c = search rules
 
 offset_bounds-to-picked_cols : tie.Need-offset_bounds-to-picked_cols invariant-loop-i decreases-loop-i
-offset_bounds-to-picked_cols c = record { fits = omega (arith, (within c).1) }
+offset_bounds-to-picked_cols c = record { fits = omega (arith, c.requires.2 c.loop-i.i c.loop-i-test.true) }
 
 bounds-to-picked_cols : tie.Need-bounds-to-picked_cols invariant-loop-i decreases-loop-i
-bounds-to-picked_cols c = (within c).1
+bounds-to-picked_cols c = c.requires.2 c.loop-i.i c.loop-i-test.true
 
 offset_bounds-cols-i : tie.Need-offset_bounds-cols-i invariant-loop-i decreases-loop-i
 offset_bounds-cols-i c = search rules
