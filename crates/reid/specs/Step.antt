@@ -1,5 +1,5 @@
 -- Rules 60 to 65: step 3 on a table with its floats: who meets whom, the merges, who leaves; the active list; and its account: who was absorbed.
-use Rattle.std.specs.Prelude.{◌≡◌, Bool, true, false, not, cond, ◌&&◌, List, [], ◌∷◌, ◌++◌, map, ℕ, ◌+◌, ◌*◌, ◌<◌, ◌≤◌, ltb, eqb, pos, length, get_or, set, take, replicate, Float}
+use Rattle.std.specs.Prelude.{◌≡◌, Bool, true, false, not, cond, ◌&&◌, List, [], ◌∷◌, ◌++◌, map, ℕ, ◌*◌, ◌≤◌, ltb, eqb, pos, length, get_or, set, take, replicate, Float}
 use Rattle.std.specs.Int.Signed.{le_z}
 use Rattle.laws.specs.Lists.{below, keep, holds, EachBelow}
 use Rattle.laws.specs.Turns.{through}

@@ -48,11 +48,11 @@ loop-i-preserved c =
     let records = l.args.records in
     let h : l.loop-i.i < length records = omega (arith, l.well_formed.0.1.0.1) in
     elim c.if-is_active.branch [
-      then-is_active w ↦ (
+      | then-is_active w ↦ (
         omega arith,
         rw w.count-is (one_more records l.loop-i.i blank h (sym c.is_active.ensures ∙ w.if-is_active.true) l.loop-i.invariant.1),
       )
-    | else-is_active w ↦ (
+      | else-is_active w ↦ (
         omega arith,
         rw w.count-is (no_more records l.loop-i.i blank h (sym c.is_active.ensures ∙ w.if-is_active.false) l.loop-i.invariant.1),
       )

@@ -65,12 +65,12 @@ loop-i-preserved c =
     let told = sym c.is_active.ensures in
     let few : length (active_ids l.loop-i.i records) < length list₀ = omega (arith, active-few l.loop-i.i records) in
     elim c.if-is_active.branch [
-      then-is_active w ↦
-        let next = listed_more records l.loop-i.i blank h list₀ l.loop-i.invariant.1 (told ∙ w.if-is_active.true) few in
-        (omega arith, (w.count-is ∙ next.0, w.list-is ∙ next.1))
-    | else-is_active w ↦
-        let same = listed_same records l.loop-i.i blank h list₀ l.loop-i.invariant.1 (told ∙ w.if-is_active.false) in
-        (omega arith, (w.count-is ∙ same.0, w.list-is ∙ same.1))
+      | then-is_active w ↦
+          let next = listed_more records l.loop-i.i blank h list₀ l.loop-i.invariant.1 (told ∙ w.if-is_active.true) few in
+          (omega arith, (w.count-is ∙ next.0, w.list-is ∙ next.1))
+      | else-is_active w ↦
+          let same = listed_same records l.loop-i.i blank h list₀ l.loop-i.invariant.1 (told ∙ w.if-is_active.false) in
+          (omega arith, (w.count-is ∙ same.0, w.list-is ∙ same.1))
     ]
 
 shape_of-list : tie.Need-shape_of-list invariant-loop-i decreases-loop-i

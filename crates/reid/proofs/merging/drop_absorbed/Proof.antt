@@ -7,7 +7,7 @@ use native.Mathlib.Nat.{zero-mul, mul-le-mul_right, le_trans}
 use native.Mathlib.Omega.{arith}
 use native.Mathlib.Numerals.{add-one}
 use borrow.Author.Rules.{rules}
-use lib.ListN.{length, take, length-map}
+use lib.ListN.{length, take}
 use Rattle.laws.specs.Lists.{below, keep}
 use Rattle.parts.specs.declared.block.Layout.{Layout}
 use Rattle.parts.specs.Layout.{block_size}

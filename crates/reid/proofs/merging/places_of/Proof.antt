@@ -1,7 +1,7 @@
 -- `reid::merging::places_of` meets its contract: the arrays hold the places of the first i picks.
 use mathlib.Core.Path.{◌≡◌, refl}
 use mathlib.Core.List.{map}
-use Prim.Native.Nat.{◌≤◌, ◌<◌, ◌-◌}
+use Prim.Native.Nat.{◌≤◌, ◌-◌}
 use native.Mathlib.Omega.{arith}
 use borrow.Author.Rules.{rules}
 use lib.ListN.{get_or}
