@@ -18,7 +18,7 @@ unfolding predict_answer predict_storage
 returns-then-due-ne0 c =
     let s = c.args in
     let call = c.predict_refusal-due in
-    let e = ne_eqb (first_due (predict_checks s.t (length s.storage-1.now))) 0 (λ z. omega (arith, c.if-due-ne0.true, call.ensures, z)) in
+    let e = ne_eqb (first_due (predict_checks s.t (length s.storage.now))) 0 (λ z. omega (arith, c.if-due-ne0.true, call.ensures, z)) in
     (rw (call.ensures, e), rw e)
 
 none-due : (c : tie.Else-due-ne0) → let a = c.args in first_due (predict_checks a.t (length a.storage.now)) ≡ 0
