@@ -87,6 +87,7 @@ if-issued waits = tt
 if-issued (has m) = m
 
 every_member : {A : Type 0} {P : A → Type 0} {x : A} {l : List A} → Every P l → Memᴰ x l → P x
+every_member none m = elim m [ ]
 every_member (one p r) (Memᴰ.head e) = rw e p
 every_member (one p r) (Memᴰ.tail m) = every_member r m
 
