@@ -1,5 +1,5 @@
 -- Lists that definitions speak of: the numbers below a count, those that pass a test, whether one does, how often a number stands in a list, and a list in a fixed array.
-use Rattle.std.specs.Prelude.{Bool, true, false, ◌||◌, cond, List, [], ◌∷◌, ◌++◌, ℕ, zero, suc, ◌+◌, ◌-◌, ◌<◌, eqb, length, get_or, replicate}
+use Rattle.std.specs.Prelude.{Bool, false, ◌||◌, cond, List, [], ◌∷◌, ◌++◌, ℕ, zero, suc, ◌+◌, ◌-◌, ◌<◌, eqb, length, get_or, replicate}
 
 -- 0, 1 and so on below n, ascending
 unfoldable pub below : ℕ → List ℕ

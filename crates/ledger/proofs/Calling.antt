@@ -1,11 +1,8 @@
 -- Rules 11, 12 and 75: a call is accepted or refused: what holds of nothing done and of what was done holds of the call. Every law over calls cites this.
 use mathlib.Core.Path.{◌≡◌, refl}
 use mathlib.Core.Bool.{Bool, true, false, cond}
-use mathlib.Core.List.{List}
-use borrow.Author.Tests.{eqb-true, ne_eqb}
+use borrow.Author.Tests.{eqb-true}
 use lib.Dec.{eqb}
-use lib.Ieee.{Float}
-use Rattle.table.specs.declared.Table.{Table}
 use Rattle.predict.specs.Step.{predict_table, predict_floats}
 use Rattle.matching_step.specs.Step.{match_table, match_floats, matched_floats}
 use Rattle.reid.specs.Step.{reid_table, reid_floats}

@@ -1,8 +1,7 @@
 -- Rules 14, 32, 61, 63 and 75: a record that is its own old one, two that absorb each other, altered tables that step 1 leaves not whole, and refusal 13 in mid-day: run by the checker.
 use mathlib.Core.Path.{◌≡◌, refl}
 use mathlib.Core.Bool.{true, false}
-use mathlib.Core.List.{List, [], ◌∷◌, map}
-use Prim.Native.Nat.{ℕ}
+use mathlib.Core.List.{[], ◌∷◌, map}
 use lib.ListN.{replicate}
 use lib.Ieee.{lt, of_bits}
 use Rattle.laws.specs.Float64.{f0, finite}

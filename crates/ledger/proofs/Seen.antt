@@ -1,13 +1,12 @@
 -- Rules 46, 47 and 64: what one call tells the host: each record shows the global ID given at its opening, pairs tell the hits, an active list names who is there.
-use mathlib.Core.Path.{◌≡◌, refl, sym}
-use mathlib.Core.Bool.{true}
+use mathlib.Core.Path.{◌≡◌, refl}
 use mathlib.Core.List.Memᴰ
 use mathlib.Core.List.{List, [], ◌∷◌, ◌++◌, map, Memᴰ}
-use Prim.Native.Nat.{ℕ, ◌+◌, ◌<◌, ◌≤◌}
+use Prim.Native.Nat.{ℕ, ◌<◌, ◌≤◌}
 use native.Mathlib.Omega.{arith}
 use borrow.Author.Tests.{eq-eqb}
 use lib.Ieee.{Float}
-use lib.ListN.{length, get_or}
+use lib.ListN.{length}
 use lib.Seq.{length-take-le, get_or-take}
 use Rattle.laws.specs.Every.{Every, none, one}
 use Rattle.laws.specs.Lists.{times}
@@ -19,14 +18,14 @@ use Rattle.table.specs.Making.{zero_object}
 use Rattle.table.specs.Slots.{table_slots, name_of, table_objects, table_names}
 use Rattle.passes.specs.Checks.{Frame}
 use Rattle.predict.specs.Step.{predict_table}
-use Rattle.matching_step.specs.Step.{first_hits, second_hits, match_table, pair_of, pairs_of, match_refusal}
+use Rattle.matching_step.specs.Step.{match_table, pair_of, pairs_of}
 use Rattle.matching_step.specs.Account.{hit_of, match_account, Given, given, given_to, shown_by}
 use Rattle.matching_step.proofs.AccountLaws.{table-shown}
 use Rattle.matching_step.proofs.PairLaws.{record_at, first_below, second_below, at_place}
 use Rattle.reid.specs.Step.{reid_table, active, active_ids}
 use Rattle.reid.proofs.StepLaws.{name_in, every_stays}
-use Rattle.ledger.specs.History.{Call, predict, match, reid, total, current, World, after, refusal_of, Entry, nothing, matched_by, did, entry_of}
-use Rattle.ledger.specs.Shown.{Struck, strikes, Tells, Each, done, also}
+use Rattle.ledger.specs.History.{Call, predict, match, reid, total, current, World, after, refusal_of, Entry, matched_by, did, entry_of}
+use Rattle.ledger.specs.Shown.{strikes, Tells, Each, done, also}
 use Rattle.ledger.proofs.Calling as calling
 use Rattle.ledger.proofs.Predicted.{everyone_stays}
 

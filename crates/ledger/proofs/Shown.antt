@@ -1,5 +1,5 @@
 -- Rules 46, 47, 64 and 75: what the host sees, over any sequence of calls, with nothing assumed.
-use mathlib.Core.Path.{◌≡◌, refl, sym, ◌∙◌, ap}
+use mathlib.Core.Path.{◌≡◌, sym, ◌∙◌, ap}
 use mathlib.Core.List.Memᴰ
 use mathlib.Core.List.{List, [], ◌∷◌, ◌++◌, map, map-append, map-map, Memᴰ}
 use Prim.Native.Nat.{ℕ, ◌<◌}
@@ -8,8 +8,8 @@ use borrow.Author.Tests.{eq-eqb}
 use lib.Ieee.{Float}
 use lib.ListN.{length, length-map}
 use Rattle.laws.specs.Every.{Every, none, one}
-use Rattle.laws.specs.Lists.{times, up_from}
-use Rattle.laws.proofs.Every.{every_weaker, every_append, every_map, every_unmap, every_and}
+use Rattle.laws.specs.Lists.{times}
+use Rattle.laws.proofs.Every.{every_weaker, every_append, every_and}
 use Rattle.laws.proofs.Through.{through_hold}
 use Rattle.laws.proofs.Weighing.{Run, run_up}
 use Rattle.laws.proofs.Weights.{run_once}
@@ -18,7 +18,7 @@ use Rattle.table.specs.declared.Table.{Table}
 use Rattle.table.specs.Making.{made}
 use Rattle.table.proofs.MakingLaws.{accepted-fresh}
 use Rattle.pairs.specs.declared.Pair.{Pair}
-use Rattle.matching_step.specs.Account.{opened_globals, Given, given, given_to}
+use Rattle.matching_step.specs.Account.{Given, given, given_to}
 use Rattle.ledger.specs.History.{Call, Entry, Day, goes_on, fresh, day_of}
 use Rattle.ledger.specs.Demand.{gather, entries, opened_in, Among, hit_by}
 use Rattle.ledger.specs.Shown.{given_in, globals, NamesOne, Struck, strikes, Tells, Each, done, also, Shown}

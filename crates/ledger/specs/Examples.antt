@@ -1,5 +1,5 @@
 -- Rules 14, 32, 61, 63 and 75: small tables to run the definitions on.
-use Rattle.std.specs.Prelude.{true, false, List, [], ◌∷◌, map, ℕ, ℤ, pos, negsuc, length, replicate, Float}
+use Rattle.std.specs.Prelude.{true, false, List, [], ◌∷◌, ℕ, ℤ, pos, negsuc, replicate, Float}
 use Rattle.std.specs.Float.{binary64, nan}
 use Rattle.std.specs.Float.Ieee.{of_bits}
 use Rattle.laws.specs.Float64.{f0, f1}
@@ -15,7 +15,7 @@ use Rattle.table.specs.declared.Table.{Table}
 use Rattle.table.specs.declared.Phase.TheVariants.{Predict, Reid}
 use Rattle.table.specs.Making.{zero_object, no_numbers, no_lists, candidates_of}
 use Rattle.pairs.specs.declared.Pair.{Pair}
-use Rattle.passes.specs.Checks.{Frame, frame}
+use Rattle.passes.specs.Checks.{frame}
 use Rattle.matching_step.specs.Step.{no_pair}
 use Rattle.ledger.specs.History.{Call, predict, match, reid, World}
 

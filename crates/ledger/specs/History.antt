@@ -1,5 +1,5 @@
 -- Rule 75: a sequence of public calls from a fresh tracker, with any inputs, and the history of what each did by its own definition, grouped by frame.
-use Rattle.std.specs.Prelude.{Bool, true, false, cond, List, [], ◌∷◌, ◌++◌, map, ℕ, zero, suc, eqb, length, Float}
+use Rattle.std.specs.Prelude.{Bool, cond, List, [], ◌∷◌, ◌++◌, ℕ, eqb, length, Float}
 use Rattle.laws.specs.Turns.{through}
 use Rattle.parts.specs.declared.TrackerConfig.{TrackerConfig}
 use Rattle.table.specs.declared.Table.{Table}

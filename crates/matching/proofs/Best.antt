@@ -1,9 +1,9 @@
 -- Rule 42: the code keeps the best entry beside its place, and one turn of its column scan is `look`.
-use mathlib.Core.Path.{◌≡◌, refl, sym}
-use mathlib.Core.Bool.{Bool, true, false, ◌&&◌, cond}
+use mathlib.Core.Path.{◌≡◌, refl}
+use mathlib.Core.Bool.{Bool, true, false, ◌&&◌}
 use mathlib.Core.List.{List}
 use Prim.Native.Nat.{ℕ}
-use lib.Ieee.{Float, lt}
+use lib.Ieee.{Float}
 use Rattle.matching.specs.declared.Place.{Place}
 use Rattle.matching.specs.declared.Place.TheVariants.{At, Nothing}
 use Rattle.matching.specs.Greedy.{Matrix, eligible, smaller, look}

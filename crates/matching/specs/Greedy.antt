@@ -1,6 +1,6 @@
 -- Rule 42: the smallest counting entry whose row and column are free, ties in row-major order; mark both used; until none is left.
 -- What counts and what an entry is are parameters, so that a further condition on what counts changes nothing here.
-use Rattle.std.specs.Prelude.{Bool, true, false, not, ◌&&◌, cond, List, [], ◌∷◌, map, ℕ, zero, suc, length, get_or, set, Float}
+use Rattle.std.specs.Prelude.{Bool, true, false, not, ◌&&◌, cond, List, [], ◌∷◌, map, ℕ, zero, suc, get_or, set, Float}
 use Rattle.std.specs.Float.Ieee.{lt}
 use Rattle.laws.specs.Turns.{through}
 use Rattle.matching.specs.declared.Place.{Place}

@@ -23,7 +23,7 @@ use Rattle.passes.specs.Checks.{Frame}
 use Rattle.matching_step.specs.Step.{State, hit_one, open_one}
 use Rattle.table.specs.Slots.{no_slot}
 use Rattle.matching_step.specs.Account.{Issue, issue, issued_by_hit, issued_by_opening, Standing, waits, has, Bears, Borne}
-use Rattle.laws.specs.Every.{Every, none, one}
+use Rattle.laws.specs.Every.{none, one}
 use Rattle.laws.proofs.Every.{every_append, every_set, every_weaker}
 
 -- what was issued stays issued

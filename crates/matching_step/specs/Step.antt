@@ -1,5 +1,5 @@
 -- Rules 40 and 43 to 48: step 2 on a table with its floats: the hits of pass 1, those of pass 2, the openings; and the pair list.
-use Rattle.std.specs.Prelude.{◌≡◌, Bool, true, false, not, cond, List, [], ◌∷◌, ◌++◌, map, ℕ, ◌+◌, ◌*◌, ◌<◌, ◌≤◌, eqb, pos, length, get_or, set, take, drop, replicate, Float}
+use Rattle.std.specs.Prelude.{◌≡◌, Bool, true, not, cond, List, [], ◌∷◌, ◌++◌, map, ℕ, ◌+◌, ◌*◌, ◌≤◌, eqb, pos, length, get_or, set, take, drop, replicate, Float}
 use Rattle.std.specs.Int.Signed.{le_z}
 use Rattle.std.specs.Float.{nan}
 use Rattle.laws.specs.Float64.{f0}

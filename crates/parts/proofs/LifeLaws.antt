@@ -2,12 +2,11 @@
 use mathlib.Core.Path.{◌≡◌, refl}
 use mathlib.Core.Bool.{Bool, true, false, cond, not, ◌&&◌}
 use Prim.Native.Nat.{ℕ}
-use lib.IntN.{ℤ, pos}
+use lib.IntN.{ℤ}
 use lib.Signed.{lt_z}
 use Rattle.parts.specs.declared.ReidCounter.{ReidCounter}
 use Rattle.parts.specs.declared.Life.{Life}
-use Rattle.parts.specs.declared.ReidCounter.TheVariants.{Absent}
-use Rattle.parts.specs.Life.{life_opened, life_predicted, life_hit, raised, promotes, is_zero}
+use Rattle.parts.specs.Life.{life_opened, life_hit, raised, promotes, is_zero}
 
 -- ---- who takes the next permanent ID
 

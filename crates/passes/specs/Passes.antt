@@ -1,5 +1,5 @@
 -- Rules 43, 44 and 48: both passes, who is left over, the old ones and the candidates.
-use Rattle.std.specs.Prelude.{Bool, true, false, not, cond, List, [], ◌++◌, ℕ, ◌≤◌, take, replicate}
+use Rattle.std.specs.Prelude.{Bool, true, false, not, cond, List, ◌++◌, ℕ, ◌≤◌, take, replicate}
 use Rattle.laws.specs.Lists.{below, keep, holds, times}
 use Rattle.matching.specs.declared.Numbers.{Numbers}
 use Rattle.matching.specs.declared.Picks.{Picks}

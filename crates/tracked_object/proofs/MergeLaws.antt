@@ -19,7 +19,7 @@ use Rattle.parts.specs.declared.PastDetection.{PastDetection}
 use Rattle.parts.specs.declared.ReidCounter.TheVariants.{Absent}
 use Rattle.parts.specs.Layout.{coords, width, last_place, past_place, block_size}
 use Rattle.parts.specs.Ranges.{Sizes, ObjectInRange, AgesInRange, unaged}
-use Rattle.tracked_object.specs.Object.{History, history, takes, added, conditionally_added, mark_of, entry_of, history_merged, taken, merging, object_merged, block_merged}
+use Rattle.tracked_object.specs.Object.{History, takes, added, conditionally_added, mark_of, entry_of, history_merged, taken, merging, object_merged, block_merged}
 use Rattle.parts.proofs.PastLaws.{length-pushed, history_elsewhere}
 use Rattle.tracked_object.proofs.AgeLaws.{ages_kept}
 

@@ -1,5 +1,5 @@
 -- Rules 32, 45, 46, 61 and 62: a record and its block, predicted, hit, opened and merged.
-use Rattle.std.specs.Prelude.{Bool, true, false, cond, ◌&&◌, ◌||◌, List, [], ◌∷◌, ◌++◌, ℕ, ◌+◌, ◌-◌, ◌*◌, min, ltb, ℤ, pos, negsuc, get_or, take, drop, replicate, Float}
+use Rattle.std.specs.Prelude.{Bool, true, cond, ◌&&◌, ◌||◌, List, [], ◌∷◌, ◌++◌, ℕ, ◌+◌, ◌*◌, min, ltb, pos, negsuc, get_or, take, drop, replicate, Float}
 use Rattle.std.proofs.Math.Seq.{paste}
 use Rattle.std.specs.Float.Ieee.{lt}
 use Rattle.laws.specs.Float64.{f1}

@@ -1,15 +1,14 @@
 -- Rules 11 and 14: what steps 1 and 3 have once none of their refusals is due.
-use mathlib.Core.Path.{◌≡◌, refl, sym, ◌∙◌}
-use mathlib.Core.Bool.{true, false, not}
-use Prim.Native.Nat.{ℕ, ◌<◌, ◌≤◌}
+use mathlib.Core.Path.{◌≡◌}
+use Prim.Native.Nat.{ℕ, ◌≤◌}
 use native.Mathlib.Omega.{arith}
-use borrow.Author.Tests.{ltb-false, leb-false, eqb-true, not-false}
+use borrow.Author.Tests.{ltb-false, eqb-true, not-false}
 use lib.ListN.{length}
 use Rattle.table.specs.declared.Table.{Table}
 use Rattle.table.specs.Making.{zero_object}
 use Rattle.table.specs.Refusals.{first_due, storage_need, predict_checks}
 use Rattle.table.proofs.Facts.{whole_facts, sizes_of, blocks-fit, object_in_range}
-use Rattle.table.proofs.Due.{NoneDue, none-due}
+use Rattle.table.proofs.Due.{none-due}
 use Rattle.predict.specs.Step.{Ready}
 use Rattle.reid.specs.Step as reid
 use Rattle.reid.specs.Step.{reid_checks}

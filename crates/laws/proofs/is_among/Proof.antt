@@ -1,13 +1,12 @@
 -- `laws::is_among` meets its contract: what is left to look at decides.
 use mathlib.Core.Path.{◌≡◌, refl, sym, ◌∙◌}
-use mathlib.Core.List.{List}
-use Prim.Native.Nat.{ℕ, ◌≤◌, ◌<◌, ◌-◌}
+use Prim.Native.Nat.{◌≤◌, ◌-◌}
 use native.Mathlib.Omega.{arith}
 use native.Mathlib.Numerals.{add-one}
 use borrow.Author.Rules.{rules}
 use borrow.Author.Tests.{eq-eqb, ne_eqb}
 use lib.Dec.{eqb}
-use lib.ListN.{length, take, drop, get_or}
+use lib.ListN.{length, take, drop}
 use lib.Seq.{length-take-le, get_or-take}
 use Rattle.laws.specs.Lists.{holds}
 use Rattle.laws.proofs.Search.{any_here, any_on, any_end}

@@ -2,10 +2,6 @@
 use borrow.Author.Rules.{rules}
 use Rattle.matching.proofs.counts.Statement.{statement}
 use Rattle.matching.proofs.counts.Tie as tie
-use Rattle.matching.proofs.counts.Reads as reads
-use Rattle.matching.proofs.counts.Lts as lts
-use Rattle.laws.proofs.both.Reads as both-reads
-use Rattle.laws.proofs.is_finite.Reads as is-finite-reads
 
 is_finite-requires : tie.Need-is_finite-requires
 is_finite-requires c κs = search rules

@@ -61,8 +61,8 @@ loop-i-preserved c =
     let p : ℕ → Bool = λ i. not (holds i ms) in
     let told = ap not (sym c.is_among.ensures) in
     elim c.if-not-is_among.branch [
-      then-not-is_among w ↦ (omega arith, rw (w.at-is, w.count-is) (below_joins 64 p loop.i (omega arith) (told ∙ ap not w.if-not-is_among.true) loop.invariant.1))
-    | else-not-is_among w ↦ (omega arith, rw (w.at-is, w.count-is) (below_stays 64 p loop.i (told ∙ ap not w.if-not-is_among.false) loop.invariant.1))
+      | then-not-is_among w ↦ (omega arith, rw (w.at-is, w.count-is) (below_joins 64 p loop.i (omega arith) (told ∙ ap not w.if-not-is_among.true) loop.invariant.1))
+      | else-not-is_among w ↦ (omega arith, rw (w.at-is, w.count-is) (below_stays 64 p loop.i (told ∙ ap not w.if-not-is_among.false) loop.invariant.1))
     ]
 
 returns : tie.Need-returns invariant-loop-i decreases-loop-i

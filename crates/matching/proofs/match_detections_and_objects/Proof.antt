@@ -1,10 +1,9 @@
 -- `matching::match_detections_and_objects` meets its contract: each turn holds the picks done and the rest still to come.
-use mathlib.Core.Path.{◌≡◌, refl, sym, ◌∙◌, ap}
-use Prim.Native.Nat.{ℕ, ◌≤◌, ◌-◌}
+use mathlib.Core.Path.{◌≡◌, sym, ◌∙◌}
+use Prim.Native.Nat.{◌≤◌, ◌-◌}
 use native.Mathlib.Omega.{arith}
 use native.Mathlib.Nat.{le_trans}
 use borrow.Author.Rules.{rules}
-use lib.ListN.{length}
 use Rattle.matching.specs.declared.Place.TheVariants.{At}
 use Rattle.matching.specs.Greedy.{greedy, next_pick}
 use Rattle.matching.specs.Lent.{lent}

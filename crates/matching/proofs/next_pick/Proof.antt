@@ -1,5 +1,5 @@
 -- `matching::next_pick` meets its contract: the column scan holds `scan_row`, the row scan `scan_rows`, and the outer loop has one turn.
-use mathlib.Core.Path.{◌≡◌, refl, sym, ◌∙◌, ap₂}
+use mathlib.Core.Path.{◌≡◌, refl, ◌∙◌, ap₂}
 use Prim.Native.Nat.{ℕ, ◌≤◌, ◌<◌, ◌+◌, ◌*◌, ◌-◌}
 use lib.ListN.{length, get_or}
 use borrow.Author.Rules.{scaled_Fits}
@@ -16,11 +16,6 @@ use borrow.Author.Rules.{rules}
 use Rattle.matching.proofs.next_pick.Statement.{statement}
 use Rattle.matching.proofs.next_pick.Tie as tie
 use Rattle.matching.proofs.next_pick.Lts.{then-both, else-both}
-use Rattle.matching.proofs.next_pick.Reads as reads
-use Rattle.matching.proofs.next_pick.Lts as lts
-use Rattle.laws.proofs.both.Reads as both-reads
-use Rattle.matching.proofs.beats.Reads as beats-reads
-use Rattle.matching.proofs.counts.Reads as counts-reads
 
 abbrev invariant-loop-j : tie.invariant-loop-j
 invariant-loop-j matrix rows cols threshold used-rows used-cols place₀ best₀ i j₀ place best j =
@@ -130,16 +125,16 @@ loop-j-preserved : tie.Need-loop-j-preserved invariant-loop-j decreases-loop-j i
 unfolding scan_row
 loop-j-preserved c =
     elim c.if-both.branch [
-      then-both w ↦ (
-      omega arith,
-      rw (add-one, w.place-is, ← c.loop-j.invariant.1) (look-taken (seen c) c.args.used_rows c.args.used_cols (row c) (col c) (found c) c.both.result (test c) w.if-both.true),
-      rw (w.place-is, w.best-is) refl,
-    )
-    | else-both w ↦ (
-      omega arith,
-      rw (add-one, w.place-is, ← c.loop-j.invariant.1) (look_left (seen c) c.args.used_rows c.args.used_cols (row c) (col c) (found c) c.both.result (test c) w.if-both.false),
-      rw (w.place-is, w.best-is) c.loop-j.invariant.2,
-    )
+      | then-both w ↦ (
+        omega arith,
+        rw (add-one, w.place-is, ← c.loop-j.invariant.1) (look-taken (seen c) c.args.used_rows c.args.used_cols (row c) (col c) (found c) c.both.result (test c) w.if-both.true),
+        rw (w.place-is, w.best-is) refl,
+      )
+      | else-both w ↦ (
+        omega arith,
+        rw (add-one, w.place-is, ← c.loop-j.invariant.1) (look_left (seen c) c.args.used_rows c.args.used_cols (row c) (col c) (found c) c.both.result (test c) w.if-both.false),
+        rw (w.place-is, w.best-is) c.loop-j.invariant.2,
+      )
     ]
 
 overflow_add-i : tie.Need-overflow_add-i invariant-loop-j decreases-loop-j invariant-loop-i decreases-loop-i invariant-loop-used_rows decreases-loop-used_rows

@@ -4,7 +4,7 @@ use mathlib.Core.Bool.{true, false}
 use Prim.Native.Nat.{◌≤◌, ◌-◌}
 use native.Mathlib.Omega.{arith}
 use borrow.Author.Rules.{rules}
-use lib.ListN.{length, set, take, replicate, length-map}
+use lib.ListN.{length, set, take, replicate}
 use Rattle.laws.specs.Turns.{through}
 use Rattle.laws.proofs.Through.{through_next}
 use Rattle.matching.specs.Greedy.{cleared}

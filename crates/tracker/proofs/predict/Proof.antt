@@ -3,7 +3,7 @@ use mathlib.Core.Path.{◌≡◌}
 use native.Mathlib.Omega.{arith}
 use borrow.Author.Rules.{rules}
 use borrow.Author.Tests.{ne_eqb}
-use lib.ListN.{length, length-map}
+use lib.ListN.{length}
 use Rattle.table.specs.Refusals.{first_due, predict_checks}
 use Rattle.tracker.specs.Calls.{predict_answer, predict_storage}
 use Rattle.tracker.proofs.Readiness.{ready}

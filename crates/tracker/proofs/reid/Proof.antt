@@ -4,7 +4,7 @@ use Prim.Native.Nat.{◌≤◌}
 use native.Mathlib.Omega.{arith}
 use borrow.Author.Rules.{rules}
 use borrow.Author.Tests.{ne_eqb}
-use lib.ListN.{length, length-map}
+use lib.ListN.{length}
 use Rattle.table.specs.Refusals.{first_due}
 use Rattle.reid.specs.Step as reid
 use Rattle.reid.specs.Step.{reid_checks}

@@ -2,7 +2,7 @@
 use mathlib.Core.Path.{◌≡◌, sym, ◌∙◌}
 use native.Mathlib.Omega.{arith}
 use borrow.Author.Rules.{rules}
-use lib.ListN.{length, length-map}
+use lib.ListN.{length}
 use Rattle.passes.specs.Checks.{Frame, frame, lengths_of}
 use Rattle.matching_step.proofs.Readiness.{decidable, given_due, Picking, askable, pairable, startable, matched-given, matched_decided, matched-accepted}
 use Rattle.matching_step.proofs.stepping.match_table.Statement.{statement}

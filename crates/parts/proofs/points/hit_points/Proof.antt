@@ -66,8 +66,8 @@ loop-i-preserved c =
       search rules,
       turns_next _ loop.i _ {b = loop.counters}
           (elim c.if-is_above.branch [
-            then-is_above w ↦ rw (tested ∙ w.if-is_above.true) (w.counters-is ∙ ap (set loop.counters loop.i) w.capped.ensures)
-          | else-is_above w ↦ rw (tested ∙ w.if-is_above.false) w.counters-is
+            | then-is_above w ↦ rw (tested ∙ w.if-is_above.true) (w.counters-is ∙ ap (set loop.counters loop.i) w.capped.ensures)
+            | else-is_above w ↦ rw (tested ∙ w.if-is_above.false) w.counters-is
           ])
           loop.invariant.1,
     )

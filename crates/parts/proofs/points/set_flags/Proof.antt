@@ -47,8 +47,8 @@ loop-i-preserved c =
       search rules,
       turns_next _ loop.i _ {b = loop.flags}
           (elim c.if-is_above.branch [
-            then-is_above w ↦ rw (tested ∙ w.if-is_above.true) (w.flags-is ∙ w.set_flag-flags.ensures)
-          | else-is_above w ↦ rw (tested ∙ w.if-is_above.false) w.flags-is
+            | then-is_above w ↦ rw (tested ∙ w.if-is_above.true) (w.flags-is ∙ w.set_flag-flags.ensures)
+            | else-is_above w ↦ rw (tested ∙ w.if-is_above.false) w.flags-is
           ])
           loop.invariant.1,
     )

@@ -1,12 +1,12 @@
 -- `passes::lists::append` meets its contract: the array holds the front and the first i of the list.
-use mathlib.Core.Path.{◌≡◌, sym, ◌∙◌, ap}
+use mathlib.Core.Path.{◌≡◌, sym, ap}
 use mathlib.Core.List.{[], ◌∷◌, ◌++◌, append_assoc, append-nil}
 use Prim.Native.Nat.{◌≤◌, ◌+◌, ◌-◌}
 use native.Mathlib.Nat.{add_assoc}
 use native.Mathlib.Numerals.{add-one}
 use native.Mathlib.Omega.{arith}
 use borrow.Author.Rules.{rules}
-use lib.ListN.{length, take, get_or, length-append, length-map}
+use lib.ListN.{length, take, get_or, length-append}
 use lib.Seq.{length-take-le, take-suc}
 use Rattle.laws.proofs.Standing.{Stands, stands_more}
 use Rattle.matching.specs.declared.Numbers.{Numbers}

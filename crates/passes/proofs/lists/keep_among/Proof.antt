@@ -6,7 +6,7 @@ use Prim.Native.Nat.{ℕ, ◌≤◌, ◌+◌, ◌-◌}
 use native.Mathlib.Numerals.{add-one}
 use native.Mathlib.Omega.{arith}
 use borrow.Author.Rules.{rules}
-use lib.ListN.{length, take, get_or, length-map}
+use lib.ListN.{length, take, get_or}
 use lib.Seq.{length-take-le, take-suc}
 use Rattle.laws.specs.Lists.{keep, holds}
 use Rattle.laws.proofs.Growing.{length-keep}
@@ -93,8 +93,8 @@ loop-i-preserved c =
     let next : take (loop.i + 1) from ≡ l ++ (x ∷ []) = rw (add-one loop.i) (take-suc from loop.i 0 (omega (arith, whole s))) in
     let few = looked s loop.i (omega arith) in
     elim c.if-is_among-wanted.branch [
-      then-is_among-wanted w ↦ (omega arith, rw (w.at-is, w.count-is, next) (stands_joins 64 (test s) l x (omega arith) (answered c.before ∙ w.if-is_among-wanted.true) loop.invariant.1))
-    | else-is_among-wanted w ↦ (omega arith, rw (w.at-is, w.count-is, next) (stands_stays 64 (test s) l x (answered c.before ∙ w.if-is_among-wanted.false) loop.invariant.1))
+      | then-is_among-wanted w ↦ (omega arith, rw (w.at-is, w.count-is, next) (stands_joins 64 (test s) l x (omega arith) (answered c.before ∙ w.if-is_among-wanted.true) loop.invariant.1))
+      | else-is_among-wanted w ↦ (omega arith, rw (w.at-is, w.count-is, next) (stands_stays 64 (test s) l x (answered c.before ∙ w.if-is_among-wanted.false) loop.invariant.1))
     ]
 
 returns : tie.Need-returns invariant-loop-i decreases-loop-i

@@ -3,7 +3,7 @@ use mathlib.Core.Path.{◌≡◌}
 use native.Mathlib.Nat.{le_trans}
 use native.Mathlib.Omega.{arith}
 use borrow.Author.Rules.{rules}
-use lib.ListN.{length, length-map}
+use lib.ListN.{length}
 use Rattle.matching.proofs.Left.{at_most-total}
 use Rattle.passes.proofs.PassLaws.{numbers-numbers_of}
 use Rattle.passes.proofs.lists.left_over.Statement.{statement}

@@ -1,11 +1,11 @@
 -- `passes::lists::old_ones` meets its contract: the alive ones left, and behind them the dead ones not named.
 use mathlib.Core.Path.{◌≡◌, ◌∙◌}
-use mathlib.Core.Bool.{true, false}
+use mathlib.Core.Bool.{false}
 use mathlib.Core.List.{List}
 use Prim.Native.Nat.{ℕ, ◌≤◌, ◌+◌}
 use native.Mathlib.Omega.{arith}
 use borrow.Author.Rules.{rules}
-use lib.ListN.{length, length-map, length-append}
+use lib.ListN.{length, length-append}
 use Rattle.laws.specs.Lists.{keep}
 use Rattle.matching.specs.Unmatched.{unmatched, numbers_of}
 use Rattle.matching.proofs.Left.{at_most-total}

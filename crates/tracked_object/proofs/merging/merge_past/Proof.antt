@@ -7,7 +7,7 @@ use native.Mathlib.Omega.{arith}
 use borrow.Author.Rules.{rules}
 use lib.Ieee.{Float}
 use lib.IntN.{pos}
-use lib.ListN.{length, take, drop, length-map}
+use lib.ListN.{length, take, drop}
 use Rattle.laws.specs.Turns.{turns}
 use Rattle.laws.proofs.Elements.{get_or-any}
 use Rattle.laws.proofs.Turns.{turns_next}

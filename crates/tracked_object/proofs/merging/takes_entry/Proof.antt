@@ -6,7 +6,7 @@ use native.Mathlib.Omega.{arith}
 use borrow.Author.Rules.{rules}
 use borrow.Author.Tests.{lt-ltb, le-ltb}
 use lib.IntN.{pos}
-use lib.ListN.{length, get_or, length-map}
+use lib.ListN.{length, get_or}
 use mir.Facts.{to_z-of_z}
 use Rattle.laws.proofs.Elements.{get_or-any}
 use Rattle.parts.specs.Ranges.{unaged}
