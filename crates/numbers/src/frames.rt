@@ -3,8 +3,8 @@ ghost use Rattle.std.specs.Prelude.{◌<◌, ◌≤◌};
 
 use crate::put_or_none;
 use filter::FilterSettings;
-use libc::STDOUT_FILENO;
 use parts::{ReidCounter, TrackerConfig};
+use std::io;
 use table::Table;
 
 // One point of one coordinate, 8 records, no history: 8 blocks of 8 floats. Maximum 15, delay 7.
@@ -100,28 +100,25 @@ fn frame(t: Table, storage: &mut [f64], period: u32, fish: [f64; 3], n: usize) -
 }
 
 // Delay 7, maximum 15, period 1, hit each frame: permanent ID on the seventh hit.
-pub(crate) fn seventh_hit() {
+pub(crate) fn seventh_hit(rt: &impl Print) -> io::Result<()> {
     let mut storage = [0.0; 64];
     let mut t = tracker::new(settings(), &storage).table;
-    io::write_all(
-        STDOUT_FILENO,
-        b"delay 7, maximum 15, period 1, hit each frame: total",
-    );
+    rt.write_all(b"delay 7, maximum 15, period 1, hit each frame: total")?;
     let mut hits = 0u64;
     while hits < 9 {
         t = frame(t, &mut storage, 1, [0.0; 3], 1);
         let total = tracker::total_object_count(t);
-        io::write_all(STDOUT_FILENO, b" ");
-        io::print_decimal(STDOUT_FILENO, total.count as u64);
-        io::write_all(STDOUT_FILENO, b" after ");
-        io::print_decimal(STDOUT_FILENO, hits);
+        rt.write_all(b" ")?;
+        rt.print(total.count as u64)?;
+        rt.write_all(b" after ")?;
+        rt.print(hits)?;
         hits += 1;
     }
-    io::write_all(STDOUT_FILENO, b" hits\n");
+    rt.write_all(b" hits\n")
 }
 
 // Three fish, seen at ticks 0 to 11, 3 to 6 and 6 to 11; a frame each period.
-fn run(period: u32)
+fn run(rt: &impl Print, period: u32) -> io::Result<()>
     requires { 0 < period }
 {
     let mut storage = [0.0; 64];
@@ -145,38 +142,35 @@ fn run(period: u32)
     }
     let total = tracker::total_object_count(t);
     let current = tracker::current_object_count(t);
-    io::write_all(STDOUT_FILENO, b"three fish, period ");
-    io::print_decimal(STDOUT_FILENO, period as u64);
-    io::write_all(STDOUT_FILENO, b": total ");
-    io::print_decimal(STDOUT_FILENO, total.count as u64);
-    io::write_all(STDOUT_FILENO, b", current ");
-    io::print_decimal(STDOUT_FILENO, current.count as u64);
-    io::write_all(STDOUT_FILENO, b"\n");
+    rt.write_all(b"three fish, period ")?;
+    rt.print(period as u64)?;
+    rt.write_all(b": total ")?;
+    rt.print(total.count as u64)?;
+    rt.write_all(b", current ")?;
+    rt.print(current.count as u64)?;
+    rt.write_all(b"\n")
 }
 
 // A coarse run beside a fine one on the same fish: the delay is counted in hits, so that the counts part.
-pub(crate) fn coarse_and_fine() {
-    run(1);
-    run(3);
+pub(crate) fn coarse_and_fine(rt: &impl Print) -> io::Result<()> {
+    run(rt, 1)?;
+    run(rt, 3)
 }
 
 // The hit counter of the first record.
-fn put_counter(t: Table) {
+fn put_counter(rt: &impl Print, t: Table) -> io::Result<()> {
     let records = t.records;
     let o = records[0];
     let life = o.life;
-    io::write_all(STDOUT_FILENO, b" ");
-    put_or_none(life.hit_counter);
+    rt.write_all(b" ")?;
+    put_or_none(rt, life.hit_counter)
 }
 
 // ReID maximum 2, maximum 15, delay 0, period 1; opened in frame 1, missed in 2, hit in 3 to 6: dropped in frame 7 with hit counter 4.
-pub(crate) fn dropped_while_hit() {
+pub(crate) fn dropped_while_hit(rt: &impl Print) -> io::Result<()> {
     let mut storage = [0.0; 64];
     let mut t = tracker::new(settings_with(0, ReidCounter::Present(2)), &storage).table;
-    io::write_all(
-        STDOUT_FILENO,
-        b"ReID maximum 2, delay 0, missed in frame 2: hit counters of frames 1 to 6",
-    );
+    rt.write_all(b"ReID maximum 2, delay 0, missed in frame 2: hit counters of frames 1 to 6")?;
     let mut n = 1u64;
     while n < 7 {
         let mut fish = 1;
@@ -184,27 +178,27 @@ pub(crate) fn dropped_while_hit() {
             fish = 0;
         }
         t = frame(t, &mut storage, 1, [0.0; 3], fish);
-        put_counter(t);
+        put_counter(rt, t)?;
         n += 1;
     }
     let last = tracker::predict(t, &mut storage).table;
     let counts = last.counts;
-    io::write_all(STDOUT_FILENO, b"; records in frame 7: ");
-    io::print_decimal(STDOUT_FILENO, counts.records as u64);
-    io::write_all(STDOUT_FILENO, b"\n");
+    rt.write_all(b"; records in frame 7: ")?;
+    rt.print(counts.records as u64)?;
+    rt.write_all(b"\n")
 }
 
 // Delay 14 of 15 is accepted, 15 is refused by 2.
-pub(crate) fn delays() {
+pub(crate) fn delays(rt: &impl Print) -> io::Result<()> {
     let storage = [0.0; 64];
     let mut config = settings();
     config.initialization_delay = 14;
     let first = tracker::new(config, &storage);
     config.initialization_delay = 15;
     let second = tracker::new(config, &storage);
-    io::write_all(STDOUT_FILENO, b"maximum 15: delay 14 answers ");
-    io::print_decimal(STDOUT_FILENO, first.refusal as u64);
-    io::write_all(STDOUT_FILENO, b", delay 15 answers ");
-    io::print_decimal(STDOUT_FILENO, second.refusal as u64);
-    io::write_all(STDOUT_FILENO, b"\n");
+    rt.write_all(b"maximum 15: delay 14 answers ")?;
+    rt.print(first.refusal as u64)?;
+    rt.write_all(b", delay 15 answers ")?;
+    rt.print(second.refusal as u64)?;
+    rt.write_all(b"\n")
 }

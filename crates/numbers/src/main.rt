@@ -1,53 +1,54 @@
 // Rule 80: the unmarked numbers, run. Each line says what was run and what came out; the file stdout has what the page says.
 #![tactic(auto)]
+
 ghost use Rattle.std.specs.Prelude.{◌≡◌, ◌≤◌};
 ghost use Rattle.std.specs.Int.Signed.{mag};
 
 mod frames;
 
 use filter::FilterSettings;
-use libc::STDOUT_FILENO;
 use parts::{PastDetection, ReidCounter, TrackerConfig};
+use std::io;
 use tracked_object::merging;
 use tracked_object::merging::Marks;
 
-fn main() {
-    frames::delays();
-    row_of_zeros();
-    frames::seventh_hit();
-    frames::dropped_while_hit();
-    full_history(3, 12);
-    full_history(3, 11);
-    full_history(-1, 12);
-    frames::coarse_and_fine();
+fn main(rt: HostRuntime) -> io::Result<()> {
+    frames::delays(&rt)?;
+    row_of_zeros(&rt)?;
+    frames::seventh_hit(&rt)?;
+    frames::dropped_while_hit(&rt)?;
+    full_history(&rt, 3, 12)?;
+    full_history(&rt, 3, 11)?;
+    full_history(&rt, -1, 12)?;
+    frames::coarse_and_fine(&rt)
 }
 
 // Row (0, -0), threshold 1: the two tie, and the first is picked.
-fn row_of_zeros() {
+fn row_of_zeros(rt: &impl Print) -> io::Result<()> {
     let row = [0.0, -0.0];
     let picks = matching::match_detections_and_objects(&row, 1, 2, 1.0, [false; 32], [false; 64]);
-    io::write_all(STDOUT_FILENO, b"row (0, -0), threshold 1:");
-    put_picks(picks);
+    rt.write_all(b"row (0, -0), threshold 1:")?;
+    put_picks(rt, picks)
 }
 
-fn put_pair(row: usize, col: usize) {
-    io::write_all(STDOUT_FILENO, b" (");
-    io::print_decimal(STDOUT_FILENO, row as u64);
-    io::write_all(STDOUT_FILENO, b",");
-    io::print_decimal(STDOUT_FILENO, col as u64);
-    io::write_all(STDOUT_FILENO, b")");
+fn put_pair(rt: &impl Print, row: usize, col: usize) -> io::Result<()> {
+    rt.write_all(b" (")?;
+    rt.print(row as u64)?;
+    rt.write_all(b",")?;
+    rt.print(col as u64)?;
+    rt.write_all(b")")
 }
 
 // The picks as pairs, and the line's end.
-fn put_picks(picks: matching::Picks) {
+fn put_picks(rt: &impl Print, picks: matching::Picks) -> io::Result<()> {
     let mut n = 0;
     while n < 32 {
         if n < picks.count {
-            put_pair(picks.rows[n], picks.cols[n]);
+            put_pair(rt, picks.rows[n], picks.cols[n])?;
         }
         n += 1;
     }
-    io::write_all(STDOUT_FILENO, b"\n");
+    rt.write_all(b"\n")
 }
 
 // One point of one coordinate and a history of 4: a block of 16 floats.
@@ -72,7 +73,7 @@ fn small_config() -> TrackerConfig
 }
 
 // A history of 4, full, whose oldest entry has this age, and one entry more at the record's age.
-fn full_history(oldest: i32, age: u32)
+fn full_history(rt: &impl Print, oldest: i32, age: u32) -> io::Result<()>
     requires { (mag oldest ≤ 1000) × (age ≤ 1000) }
 {
     let config = small_config();
@@ -91,25 +92,24 @@ fn full_history(oldest: i32, age: u32)
     let after = merging::conditionally_add_to_past_detections(
         config, marks, age, &mut block, &entry, false,
     );
-    io::write_all(STDOUT_FILENO, b"L 4, full, oldest age ");
-    put_or_none(oldest);
-    io::write_all(STDOUT_FILENO, b", at age ");
-    io::print_decimal(STDOUT_FILENO, age as u64);
-    io::write_all(STDOUT_FILENO, b": the oldest is now ");
+    rt.write_all(b"L 4, full, oldest age ")?;
+    put_or_none(rt, oldest)?;
+    rt.write_all(b", at age ")?;
+    rt.print(age as u64)?;
+    rt.write_all(b": the oldest is now ")?;
     let ages = after.past;
     let now = ages[0];
-    put_or_none(now.age);
+    put_or_none(rt, now.age)?;
     let newest = ages[3];
-    io::write_all(STDOUT_FILENO, b", the newest ");
-    put_or_none(newest.age);
-    io::write_all(STDOUT_FILENO, b"\n");
+    rt.write_all(b", the newest ")?;
+    put_or_none(rt, newest.age)?;
+    rt.write_all(b"\n")
 }
 
 // An age or a hit counter, or none below 0.
-fn put_or_none(n: i32) {
+fn put_or_none(rt: &impl Print, n: i32) -> io::Result<()> {
     if n < 0 {
-        io::write_all(STDOUT_FILENO, b"none");
-        return;
+        return rt.write_all(b"none");
     }
-    io::print_decimal(STDOUT_FILENO, n as u64);
+    rt.print(n as u64)
 }

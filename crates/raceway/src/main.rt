@@ -1,10 +1,11 @@
 // The main job: a raceway of made-up fish, frame by frame through the public calls, in the order in which a host makes them.
 #![tactic(auto)]
+
 mod measuring;
 mod story;
 mod telling;
 
-use libc::STDOUT_FILENO;
+use std::io;
 use tracker::{FilterSettings, ReidCounter, Table, TrackerConfig};
 
 // One point of two coordinates, 8 records, no history: 8 blocks of 15 floats. A fish counts at its third sighting, and its record is dead after four misses.
@@ -27,7 +28,13 @@ fn settings() -> TrackerConfig {
 }
 
 // A frame in which so many fish are seen, at these points. The host keeps the table that comes back for the next frame.
-fn frame(t: Table, storage: &mut [f64; 120], points: [f64; 16], seen: usize) -> Table {
+fn frame(
+    rt: &impl Print,
+    t: Table,
+    storage: &mut [f64; 120],
+    points: [f64; 16],
+    seen: usize,
+) -> io::Result<Table> {
     // step 1
     let stepped = tracker::predict(t, storage).table;
     // the host measures: detections by records
@@ -63,24 +70,25 @@ fn frame(t: Table, storage: &mut [f64; 120], points: [f64; 16], seen: usize) -> 
         &mut active,
     );
     // what became known
-    telling::lists(pairs, second.count, &active, last.count, last.refusal);
-    telling::merges(second.table, last.table);
-    last.table
+    telling::lists(rt, pairs, second.count, &active, last.count, last.refusal)?;
+    telling::merges(rt, second.table, last.table)?;
+    Ok(last.table)
 }
 
-fn main() {
+fn main(rt: HostRuntime) -> io::Result<()> {
     let mut storage = [0.0; 120];
     let mut table = tracker::new(settings(), &storage).table;
-    io::write_all(STDOUT_FILENO, b"a pair is detection-record/pass\n");
+    rt.write_all(b"a pair is detection-record/pass\n")?;
     let mut n = 0u32;
     while n < 12 {
         n += 1;
-        telling::put(b"frame ", n as u64);
+        telling::put(&rt, b"frame ", n as u64)?;
         let total = tracker::total_object_count(table).count;
         let seen = story::camera(n);
         let points = seen.points;
-        table = frame(table, &mut storage, points, seen.count);
-        telling::news(table, total);
-        io::write_all(STDOUT_FILENO, b"\n");
+        table = frame(&rt, table, &mut storage, points, seen.count)?;
+        telling::news(&rt, table, total)?;
+        rt.write_all(b"\n")?;
     }
+    Ok(())
 }

@@ -1,24 +1,25 @@
 // Bad input to the public calls: each refusal alone and in pairs, so that the first in order answers, with the table and the storage compared afterwards.
 #![tactic(auto)]
+
 mod same;
 mod step_three;
 mod step_two;
 
 use filter::FilterSettings;
-use libc::STDOUT_FILENO;
 use matching::Numbers;
 use parts::{ReidCounter, TrackerConfig};
+use std::io;
 use table::{Answer, Phase, Table};
 
-fn main() {
-    makings();
-    steps();
-    lists();
-    step_two::faults();
-    step_two::accepted();
-    step_three::faults();
-    step_three::lengths();
-    step_three::altered();
+fn main(rt: HostRuntime) -> io::Result<()> {
+    makings(&rt)?;
+    steps(&rt)?;
+    lists(&rt)?;
+    step_two::faults(&rt)?;
+    step_two::accepted(&rt)?;
+    step_three::faults(&rt)?;
+    step_three::lengths(&rt)?;
+    step_three::altered(&rt)
 }
 
 // One point of two coordinates, two records, no history: 2 blocks of 15 floats.
@@ -40,28 +41,27 @@ fn good() -> TrackerConfig {
     }
 }
 
-fn put(name: &[u8], n: usize) {
-    io::write_all(STDOUT_FILENO, name);
-    io::print_decimal(STDOUT_FILENO, n as u64);
+fn put(rt: &impl Print, name: &[u8], n: usize) -> io::Result<()> {
+    rt.write_all(name)?;
+    rt.print(n as u64)
 }
 
-fn put_kept(kept: bool) {
+fn put_kept(rt: &impl Print, kept: bool) -> io::Result<()> {
     if kept {
-        io::write_all(STDOUT_FILENO, b", nothing changed\n");
+        rt.write_all(b", nothing changed\n")
     } else {
-        io::write_all(STDOUT_FILENO, b", changed\n");
+        rt.write_all(b", changed\n")
     }
 }
 
 // What a making answers, and whether a refused one returned zeros.
-fn make(name: &[u8], config: TrackerConfig, storage: &[f64]) {
+fn make(rt: &impl Print, name: &[u8], config: TrackerConfig, storage: &[f64]) -> io::Result<()> {
     let a = tracker::new(config, storage);
-    io::write_all(STDOUT_FILENO, b"making, ");
-    io::write_all(STDOUT_FILENO, name);
-    put(b": ", a.refusal as usize);
+    rt.write_all(b"making, ")?;
+    rt.write_all(name)?;
+    put(rt, b": ", a.refusal as usize)?;
     if a.refusal == 0 {
-        io::write_all(STDOUT_FILENO, b"\n");
-        return;
+        return rt.write_all(b"\n");
     }
     let mut bad = config;
     bad.points = 0;
@@ -69,46 +69,54 @@ fn make(name: &[u8], config: TrackerConfig, storage: &[f64]) {
     let zeros = tracker::new(bad, storage).table;
     let table = a.table;
     if same::same_tables(table, zeros) {
-        io::write_all(STDOUT_FILENO, b", zeros\n");
+        rt.write_all(b", zeros\n")
     } else {
-        io::write_all(STDOUT_FILENO, b", not zeros\n");
+        rt.write_all(b", not zeros\n")
     }
 }
 
 // A making with this delay, maximum and number of points, and so many floats.
-fn make_with(name: &[u8], delay: i32, maximum: i32, points: usize, floats: usize) {
+fn make_with(
+    rt: &impl Print,
+    name: &[u8],
+    delay: i32,
+    maximum: i32,
+    points: usize,
+    floats: usize,
+) -> io::Result<()> {
     let storage = [0.0; 31];
     let mut config = good();
     config.initialization_delay = delay;
     config.hit_counter_max = maximum;
     config.points = points;
     if floats <= 31 {
-        make(name, config, &storage[..floats]);
+        make(rt, name, config, &storage[..floats])?;
     }
+    Ok(())
 }
 
-fn makings() {
-    make_with(b"good", 7, 15, 1, 30);
-    make_with(b"one float too long", 7, 15, 1, 31);
-    make_with(b"one float short", 7, 15, 1, 29);
-    make_with(b"delay 14 of 15", 14, 15, 1, 31);
-    make_with(b"delay 15 of 15", 15, 15, 1, 31);
-    make_with(b"delay 15 of 15, storage short", 15, 15, 1, 29);
-    makings_below_0();
-    makings_of_17_points();
+fn makings(rt: &impl Print) -> io::Result<()> {
+    make_with(rt, b"good", 7, 15, 1, 30)?;
+    make_with(rt, b"one float too long", 7, 15, 1, 31)?;
+    make_with(rt, b"one float short", 7, 15, 1, 29)?;
+    make_with(rt, b"delay 14 of 15", 14, 15, 1, 31)?;
+    make_with(rt, b"delay 15 of 15", 15, 15, 1, 31)?;
+    make_with(rt, b"delay 15 of 15, storage short", 15, 15, 1, 29)?;
+    makings_below_0(rt)?;
+    makings_of_17_points(rt)
 }
 
-fn makings_below_0() {
-    make_with(b"delay -2", -2, 15, 1, 31);
-    make_with(b"delay -2, storage short", -2, 15, 1, 29);
-    make_with(b"delay -2 of -4", -2, -4, 1, 31);
+fn makings_below_0(rt: &impl Print) -> io::Result<()> {
+    make_with(rt, b"delay -2", -2, 15, 1, 31)?;
+    make_with(rt, b"delay -2, storage short", -2, 15, 1, 29)?;
+    make_with(rt, b"delay -2 of -4", -2, -4, 1, 31)
 }
 
-fn makings_of_17_points() {
-    make_with(b"delay -2, 17 points", -2, 15, 17, 31);
-    make_with(b"delay 15 of 15, 17 points", 15, 15, 17, 31);
-    make_with(b"17 points", 7, 15, 17, 31);
-    make_with(b"17 points, storage short", 7, 15, 17, 29);
+fn makings_of_17_points(rt: &impl Print) -> io::Result<()> {
+    make_with(rt, b"delay -2, 17 points", -2, 15, 17, 31)?;
+    make_with(rt, b"delay 15 of 15, 17 points", 15, 15, 17, 31)?;
+    make_with(rt, b"17 points", 7, 15, 17, 31)?;
+    make_with(rt, b"17 points, storage short", 7, 15, 17, 29)
 }
 
 // A list of two places.
@@ -173,29 +181,32 @@ fn lent(t: Table, storage: &mut [f64], n: usize) -> Answer {
 }
 
 // What step 1 answers, and whether it changed the table or the storage, of which the first n floats are lent.
-fn step(name: &[u8], t: Table, n: usize) {
+fn step(rt: &impl Print, name: &[u8], t: Table, n: usize) -> io::Result<()> {
     let mut storage = [0.25; 31];
     let before = [0.25; 31];
     let a = lent(t, &mut storage, n);
-    io::write_all(STDOUT_FILENO, b"step 1, ");
-    io::write_all(STDOUT_FILENO, name);
-    put(b": ", a.refusal as usize);
+    rt.write_all(b"step 1, ")?;
+    rt.write_all(name)?;
+    put(rt, b": ", a.refusal as usize)?;
     let after = a.table;
-    put_kept(laws::both(
-        same::same_tables(t, after),
-        same::same_floats(&before, &storage),
-    ));
-    put_counts(t);
+    put_kept(
+        rt,
+        laws::both(
+            same::same_tables(t, after),
+            same::same_floats(&before, &storage),
+        ),
+    )?;
+    put_counts(rt, t)
 }
 
-fn put_counts(t: Table) {
+fn put_counts(rt: &impl Print, t: Table) -> io::Result<()> {
     let total = tracker::total_object_count(t);
     let current = tracker::current_object_count(t);
-    put(b"  counts: ", total.refusal as usize);
-    put(b" ", total.count);
-    put(b", ", current.refusal as usize);
-    put(b" ", current.count);
-    io::write_all(STDOUT_FILENO, b"\n");
+    put(rt, b"  counts: ", total.refusal as usize)?;
+    put(rt, b" ", total.count)?;
+    put(rt, b", ", current.refusal as usize)?;
+    put(rt, b" ", current.count)?;
+    rt.write_all(b"\n")
 }
 
 // A table after so many frames: fresh, or zeros where the delay is refused.
@@ -206,50 +217,56 @@ fn made(delay: i32, frames: u32) -> Table {
     framed(tracker::new(config, &storage).table, frames)
 }
 
-fn in_step(name: &[u8], delay: i32, frames: u32, n: usize) {
-    step(name, made(delay, frames), n);
+fn in_step(rt: &impl Print, name: &[u8], delay: i32, frames: u32, n: usize) -> io::Result<()> {
+    step(rt, name, made(delay, frames), n)
 }
 
-fn out_of_step(name: &[u8], delay: i32, frames: u32, n: usize) {
-    step(name, stepped(made(delay, frames)), n);
+fn out_of_step(rt: &impl Print, name: &[u8], delay: i32, frames: u32, n: usize) -> io::Result<()> {
+    step(rt, name, stepped(made(delay, frames)), n)
 }
 
-fn steps() {
-    in_step(b"fresh", 7, 0, 30);
-    in_step(b"fresh, one float too long", 7, 0, 31);
-    in_step(b"zeros", -2, 0, 30);
-    in_step(b"one float short", 7, 0, 29);
-    out_of_step(b"out of step", 7, 0, 30);
-    in_step(b"frames used up", 7, 200000000, 30);
-    in_step(b"too many frames", 7, 200000001, 30);
-    steps_in_pairs();
+fn steps(rt: &impl Print) -> io::Result<()> {
+    in_step(rt, b"fresh", 7, 0, 30)?;
+    in_step(rt, b"fresh, one float too long", 7, 0, 31)?;
+    in_step(rt, b"zeros", -2, 0, 30)?;
+    in_step(rt, b"one float short", 7, 0, 29)?;
+    out_of_step(rt, b"out of step", 7, 0, 30)?;
+    in_step(rt, b"frames used up", 7, 200000000, 30)?;
+    in_step(rt, b"too many frames", 7, 200000001, 30)?;
+    steps_in_pairs(rt)
 }
 
 // Two refusals are due: the first in order answers.
-fn steps_in_pairs() {
-    in_step(b"zeros, storage short", -2, 0, 0);
-    out_of_step(b"zeros, out of step", -2, 0, 30);
-    in_step(b"too many frames, storage short", 7, 200000001, 29);
-    out_of_step(b"storage short, out of step", 7, 0, 29);
-    in_step(b"storage short, frames used up", 7, 200000000, 29);
-    out_of_step(b"out of step, frames used up", 7, 200000000, 30);
+fn steps_in_pairs(rt: &impl Print) -> io::Result<()> {
+    in_step(rt, b"zeros, storage short", -2, 0, 0)?;
+    out_of_step(rt, b"zeros, out of step", -2, 0, 30)?;
+    in_step(rt, b"too many frames, storage short", 7, 200000001, 29)?;
+    out_of_step(rt, b"storage short, out of step", 7, 0, 29)?;
+    in_step(rt, b"storage short, frames used up", 7, 200000000, 29)?;
+    out_of_step(rt, b"out of step, frames used up", 7, 200000000, 30)
 }
 
 // Step 1 after so many frames, with two records and this alive list.
-fn with_list(name: &[u8], alive: Numbers, frames: u32) {
-    step(name, listed(made(7, frames), alive), 30);
+fn with_list(rt: &impl Print, name: &[u8], alive: Numbers, frames: u32) -> io::Result<()> {
+    step(rt, name, listed(made(7, frames), alive), 30)
 }
 
-fn lists() {
-    with_list(b"a list of both records", two(1, 0), 0);
-    with_list(b"a list that names a record twice", two(1, 1), 0);
-    with_list(b"a list that names a record past the count", two(0, 2), 0);
+fn lists(rt: &impl Print) -> io::Result<()> {
+    with_list(rt, b"a list of both records", two(1, 0), 0)?;
+    with_list(rt, b"a list that names a record twice", two(1, 1), 0)?;
+    with_list(
+        rt,
+        b"a list that names a record past the count",
+        two(0, 2),
+        0,
+    )?;
     let mut long = two(0, 1);
     long.count = 65;
-    with_list(b"a list longer than its array", long, 0);
+    with_list(rt, b"a list longer than its array", long, 0)?;
     with_list(
+        rt,
         b"a list that names a record twice, frames used up",
         two(1, 1),
         200000000,
-    );
+    )
 }

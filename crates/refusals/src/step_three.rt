@@ -1,7 +1,7 @@
 // Bad input to step 3: each refusal alone and in pairs, lengths and declarations, and tables altered between the steps in ways that stay whole.
 use crate::{good, put, put_kept, same, step_two, stepped};
-use libc::STDOUT_FILENO;
 use matching::Numbers;
+use std::io;
 use table::{Candidates, Phase, Table};
 
 // A list of n places, of which the first two are given and each other is its own number.
@@ -57,19 +57,19 @@ fn with_fault(t: Table, refusal: usize) -> Table {
 }
 
 // What step 3 answers with so many floats, distances of 0.5 and places lent, and whether anything changed.
-fn run(t: Table, floats: usize, entries: usize, room: usize) {
+fn run(rt: &impl Print, t: Table, floats: usize, entries: usize, room: usize) -> io::Result<()> {
     let mut storage = [0.25; 30];
     let before = [0.25; 30];
     let distances = [0.5; 4];
     let mut active = [77u32; 4];
     if floats > 30 {
-        return;
+        return Ok(());
     }
     if entries > 4 {
-        return;
+        return Ok(());
     }
     if room > 4 {
-        return;
+        return Ok(());
     }
     let a = tracker::reid(
         t,
@@ -78,14 +78,14 @@ fn run(t: Table, floats: usize, entries: usize, room: usize) {
         &mut active[..room],
     );
     let after = a.table;
-    io::print_decimal(STDOUT_FILENO, a.refusal as u64);
+    rt.print(a.refusal as u64)?;
     let front = laws::both(active[0] == 77, active[1] == 77);
     let list = laws::both(front, laws::both(active[2] == 77, active[3] == 77));
     let kept = laws::both(
         same::same_tables(t, after),
         laws::both(same::same_floats(&before, &storage), list),
     );
-    put_kept(kept);
+    put_kept(rt, kept)
 }
 
 // The refusals of step 3 in their order.
@@ -98,7 +98,7 @@ fn refusal_at(i: usize) -> usize {
 }
 
 // With these two faults, which may be one.
-fn run_with(first: usize, second: usize) {
+fn run_with(rt: &impl Print, first: usize, second: usize) -> io::Result<()> {
     let whole = meeting(true, places(0, 1, 1), places(1, 0, 1));
     let t = with_fault(with_fault(whole, first), second);
     let mut floats = 30;
@@ -113,68 +113,76 @@ fn run_with(first: usize, second: usize) {
     if !laws::both(first != 11, second != 11) {
         room = 1;
     }
-    step_two::put_faults(first, second);
-    run(t, floats, entries, room);
+    step_two::put_faults(rt, first, second)?;
+    run(rt, t, floats, entries, room)
 }
 
 // Each refusal alone, and each two of them: the first in order answers.
-pub(crate) fn faults() {
+pub(crate) fn faults(rt: &impl Print) -> io::Result<()> {
     let mut i = 0;
     while i < 5 {
         let mut j = i;
         while j < 5 {
-            io::write_all(STDOUT_FILENO, b"step 3, ");
-            run_with(refusal_at(i), refusal_at(j));
+            rt.write_all(b"step 3, ")?;
+            run_with(rt, refusal_at(i), refusal_at(j))?;
             j += 1;
         }
         i += 1;
     }
+    Ok(())
 }
 
 // With so many candidates and old ones, declared or not, and so many distances and places lent.
 fn of_lengths(
+    rt: &impl Print,
     name: &[u8],
     declared: bool,
     candidates: usize,
     old: usize,
     entries: usize,
     room: usize,
-) {
-    io::write_all(STDOUT_FILENO, b"step 3, ");
-    io::write_all(STDOUT_FILENO, name);
-    io::write_all(STDOUT_FILENO, b": ");
+) -> io::Result<()> {
+    rt.write_all(b"step 3, ")?;
+    rt.write_all(name)?;
+    rt.write_all(b": ")?;
     let t = meeting(declared, places(0, 1, candidates), places(1, 0, old));
-    run(t, 30, entries, room);
+    run(rt, t, 30, entries, room)
 }
 
 // Matrix lengths 0, one short, as asked and one long; declared and not; an active list one place short.
-pub(crate) fn lengths() {
-    of_lengths(b"declared, 2 asked, 0 lent", true, 1, 2, 0, 2);
-    of_lengths(b"declared, 2 asked, 1 lent", true, 1, 2, 1, 2);
-    of_lengths(b"declared, 2 asked, 2 lent", true, 1, 2, 2, 2);
-    of_lengths(b"declared, 2 asked, 3 lent", true, 1, 2, 3, 2);
-    nothing_to_match();
-    not_declared();
+pub(crate) fn lengths(rt: &impl Print) -> io::Result<()> {
+    of_lengths(rt, b"declared, 2 asked, 0 lent", true, 1, 2, 0, 2)?;
+    of_lengths(rt, b"declared, 2 asked, 1 lent", true, 1, 2, 1, 2)?;
+    of_lengths(rt, b"declared, 2 asked, 2 lent", true, 1, 2, 2, 2)?;
+    of_lengths(rt, b"declared, 2 asked, 3 lent", true, 1, 2, 3, 2)?;
+    nothing_to_match(rt)?;
+    not_declared(rt)
 }
 
-fn nothing_to_match() {
-    of_lengths(b"declared, no candidates, 0 lent", true, 0, 2, 0, 2);
-    of_lengths(b"declared, no old ones, 1 lent", true, 1, 0, 1, 2);
+fn nothing_to_match(rt: &impl Print) -> io::Result<()> {
+    of_lengths(rt, b"declared, no candidates, 0 lent", true, 0, 2, 0, 2)?;
+    of_lengths(rt, b"declared, no old ones, 1 lent", true, 1, 0, 1, 2)
 }
 
-fn not_declared() {
-    of_lengths(b"not declared, 0 lent", false, 1, 2, 0, 2);
-    of_lengths(b"not declared, 2 lent", false, 1, 2, 2, 2);
-    of_lengths(b"an active list one place short", false, 1, 2, 0, 1);
-    of_lengths(b"an active list longer than asked", false, 1, 2, 0, 4);
+fn not_declared(rt: &impl Print) -> io::Result<()> {
+    of_lengths(rt, b"not declared, 0 lent", false, 1, 2, 0, 2)?;
+    of_lengths(rt, b"not declared, 2 lent", false, 1, 2, 2, 2)?;
+    of_lengths(rt, b"an active list one place short", false, 1, 2, 0, 1)?;
+    of_lengths(rt, b"an active list longer than asked", false, 1, 2, 0, 4)
 }
 
-fn put_id(id: u32) {
-    put(b" ", id as usize);
+fn put_id(rt: &impl Print, id: u32) -> io::Result<()> {
+    put(rt, b" ", id as usize)
 }
 
 // What step 3 makes of these lists and this matrix: the records left and the active ones.
-fn merged(name: &[u8], candidates: Numbers, old: Numbers, distances: &[f64]) {
+fn merged(
+    rt: &impl Print,
+    name: &[u8],
+    candidates: Numbers,
+    old: Numbers,
+    distances: &[f64],
+) -> io::Result<()> {
     let mut storage = [0.25; 30];
     let mut active = [0u32; 2];
     let a = tracker::reid(
@@ -185,64 +193,70 @@ fn merged(name: &[u8], candidates: Numbers, old: Numbers, distances: &[f64]) {
     );
     let table = a.table;
     let counts = table.counts;
-    io::write_all(STDOUT_FILENO, b"step 3, ");
-    io::write_all(STDOUT_FILENO, name);
-    put(b": ", a.refusal as usize);
-    put(b", records ", counts.records);
-    io::write_all(STDOUT_FILENO, b", active");
+    rt.write_all(b"step 3, ")?;
+    rt.write_all(name)?;
+    put(rt, b": ", a.refusal as usize)?;
+    put(rt, b", records ", counts.records)?;
+    rt.write_all(b", active")?;
     let mut i = 0;
     while i < 2 {
         if i < a.count {
-            put_id(active[i]);
+            put_id(rt, active[i])?;
         }
         i += 1;
     }
-    io::write_all(STDOUT_FILENO, b"\n");
+    rt.write_all(b"\n")
 }
 
 // Lists that overlap or are unsorted: neither traps nor loops.
-pub(crate) fn altered() {
+pub(crate) fn altered(rt: &impl Print) -> io::Result<()> {
     merged(
+        rt,
         b"one record absorbed",
         places(0, 1, 1),
         places(1, 0, 1),
         &[0.5],
-    );
+    )?;
     merged(
+        rt,
         b"a record that is its own old one",
         places(0, 1, 1),
         places(0, 1, 1),
         &[0.5],
-    );
+    )?;
     merged(
+        rt,
         b"two records that absorb each other",
         places(0, 1, 2),
         places(1, 0, 2),
         &[0.5, 2.0, 2.0, 0.5],
-    );
-    unsorted();
-    many();
+    )?;
+    unsorted(rt)?;
+    many(rt)
 }
 
-fn unsorted() {
+fn unsorted(rt: &impl Print) -> io::Result<()> {
     merged(
+        rt,
         b"unsorted lists",
         places(1, 0, 2),
         places(1, 0, 2),
         &[2.0, 0.5, 2.0, 2.0],
-    );
+    )?;
     merged(
+        rt,
         b"nothing close enough",
         places(0, 1, 1),
         places(1, 0, 1),
         &[1.0],
-    );
+    )?;
     merged(
+        rt,
         b"a list that names a record twice",
         places(0, 0, 2),
         places(1, 0, 1),
         &[0.5, 0.5],
-    );
+    )
 }
 
 // A table of 33 records, of which so many are counted as candidates.
@@ -272,17 +286,17 @@ fn crowd(candidates: usize) -> Table {
 }
 
 // A count of 33 is above the candidates' 32 places; of 32 the last is close.
-fn many() {
+fn many(rt: &impl Print) -> io::Result<()> {
     let mut more = [2.0; 33];
     more[31] = 0.5;
-    of_candidates(&more);
+    of_candidates(rt, &more)?;
     let mut most = [2.0; 32];
     most[31] = 0.5;
-    of_candidates(&most);
+    of_candidates(rt, &most)
 }
 
 // As many candidates as distances to the one old record.
-fn of_candidates(distances: &[f64]) {
+fn of_candidates(rt: &impl Print, distances: &[f64]) -> io::Result<()> {
     let n = distances.len();
     let t = crowd(n);
     let mut storage = [0.25; 960];
@@ -291,12 +305,12 @@ fn of_candidates(distances: &[f64]) {
     let a = tracker::reid(t, &mut storage, distances, &mut active);
     let after = a.table;
     let counts = after.counts;
-    put(b"step 3, candidates ", n);
-    put(b": ", a.refusal as usize);
-    put(b", records ", counts.records);
+    put(rt, b"step 3, candidates ", n)?;
+    put(rt, b": ", a.refusal as usize)?;
+    put(rt, b", records ", counts.records)?;
     let kept = laws::both(
         same::same_tables(t, after),
         laws::both(same::same_floats(&before, &storage), active[0] == 77),
     );
-    put_kept(kept);
+    put_kept(rt, kept)
 }

@@ -1,8 +1,8 @@
 // Bad input to step 2: each refusal alone and in pairs, with table, storage and pair list compared afterwards; then what it accepts at its ends.
 use crate::{good, put, put_kept, same};
-use libc::STDOUT_FILENO;
 use matching::Numbers;
 use pairs::Pair;
+use std::io;
 use table::{Phase, Table};
 
 // A table in step 2, and how it is called.
@@ -151,7 +151,7 @@ fn refusal_at(i: usize) -> usize {
 }
 
 // What step 2 answers to a case, and whether anything changed.
-fn run(c: Case) {
+fn run(rt: &impl Print, c: Case) -> io::Result<()> {
     let mut storage = [0.25; 30];
     let before = [0.25; 30];
     let mut points = [1.0; 66];
@@ -162,16 +162,16 @@ fn run(c: Case) {
     let pairs = no_pairs();
     let table = c.table;
     if c.floats > 30 {
-        return;
+        return Ok(());
     }
     if c.detections > 33 {
-        return;
+        return Ok(());
     }
     if c.places > 40 {
-        return;
+        return Ok(());
     }
     if 2 * c.detections < c.short {
-        return;
+        return Ok(());
     }
     let r = by_value::match_detections(
         table,
@@ -188,7 +188,7 @@ fn run(c: Case) {
     let answer = r.answer;
     let after = answer.table;
     let list = r.pairs;
-    io::print_decimal(STDOUT_FILENO, answer.refusal as u64);
+    rt.print(answer.refusal as u64)?;
     let kept = laws::both(
         same::same_tables(table, after),
         laws::both(
@@ -196,67 +196,78 @@ fn run(c: Case) {
             same::same_pairs(pairs, list),
         ),
     );
-    put_kept(kept);
+    put_kept(rt, kept)
 }
 
 // One fault, or two.
-pub(crate) fn put_faults(first: usize, second: usize) {
-    io::print_decimal(STDOUT_FILENO, first as u64);
+pub(crate) fn put_faults(rt: &impl Print, first: usize, second: usize) -> io::Result<()> {
+    rt.print(first as u64)?;
     if first != second {
-        io::write_all(STDOUT_FILENO, b" and ");
-        io::print_decimal(STDOUT_FILENO, second as u64);
+        rt.write_all(b" and ")?;
+        rt.print(second as u64)?;
     }
-    io::write_all(STDOUT_FILENO, b": ");
+    rt.write_all(b": ")
 }
 
 // Each refusal alone, and each two of them: the first in order answers.
-pub(crate) fn faults() {
-    io::write_all(STDOUT_FILENO, b"step 2, good: ");
-    run(good_case());
+pub(crate) fn faults(rt: &impl Print) -> io::Result<()> {
+    rt.write_all(b"step 2, good: ")?;
+    run(rt, good_case())?;
     let mut i = 0;
     while i < 10 {
         let mut j = i;
         while j < 10 {
-            io::write_all(STDOUT_FILENO, b"step 2, ");
-            put_faults(refusal_at(i), refusal_at(j));
-            run(with_fault(with_fault(good_case(), refusal_at(j)), refusal_at(i)));
+            rt.write_all(b"step 2, ")?;
+            put_faults(rt, refusal_at(i), refusal_at(j))?;
+            run(
+                rt,
+                with_fault(with_fault(good_case(), refusal_at(j)), refusal_at(i)),
+            )?;
             j += 1;
         }
         i += 1;
     }
+    Ok(())
 }
 
-fn put_pair(pair: Pair) {
-    put(b" (", pair.detection);
-    put(b",", pair.global_id as usize);
-    put(b",", pair.pass as usize);
-    io::write_all(STDOUT_FILENO, b")");
+fn put_pair(rt: &impl Print, pair: Pair) -> io::Result<()> {
+    put(rt, b" (", pair.detection)?;
+    put(rt, b",", pair.global_id as usize)?;
+    put(rt, b",", pair.pass as usize)?;
+    rt.write_all(b")")
 }
 
 // What step 2 answered: refusal, records in the table, records opened, and the pairs listed.
-fn show(name: &[u8], r: by_value::Listed) {
+fn show(rt: &impl Print, name: &[u8], r: by_value::Listed) -> io::Result<()> {
     let answer = r.answer;
     let table = answer.table;
     let counts = table.counts;
     let list = r.pairs;
-    io::write_all(STDOUT_FILENO, b"step 2, ");
-    io::write_all(STDOUT_FILENO, name);
-    put(b": ", answer.refusal as usize);
-    put(b", records ", counts.records);
-    put(b", opened ", counts.opened as usize);
-    io::write_all(STDOUT_FILENO, b", pairs");
+    rt.write_all(b"step 2, ")?;
+    rt.write_all(name)?;
+    put(rt, b": ", answer.refusal as usize)?;
+    put(rt, b", records ", counts.records)?;
+    put(rt, b", opened ", counts.opened as usize)?;
+    rt.write_all(b", pairs")?;
     let mut i = 0;
     while i < 40 {
         if i < answer.count {
-            put_pair(list[i]);
+            put_pair(rt, list[i])?;
         }
         i += 1;
     }
-    io::write_all(STDOUT_FILENO, b"\n");
+    rt.write_all(b"\n")
 }
 
 // Two detections and n records of a table with room for so many, with this threshold and this matrix.
-fn two_by(name: &[u8], capacity: usize, n: usize, threshold: f64, distances: &[f64]) {
+fn two_by(
+    rt: &impl Print,
+    name: &[u8],
+    capacity: usize,
+    n: usize,
+    threshold: f64,
+    distances: &[f64],
+) -> io::Result<()> {
     let mut storage = [0.25; 60];
     let mut config = good();
     config.capacity = capacity;
@@ -277,17 +288,17 @@ fn two_by(name: &[u8], capacity: usize, n: usize, threshold: f64, distances: &[f
         no_pairs(),
         40,
     );
-    show(name, r);
+    show(rt, name, r)
 }
 
 // No detection, and as many as may come.
-fn few_and_many() {
-    so_many(b"0 detections", 0);
-    so_many(b"32 detections", 32);
+fn few_and_many(rt: &impl Print) -> io::Result<()> {
+    so_many(rt, b"0 detections", 0)?;
+    so_many(rt, b"32 detections", 32)
 }
 
 // So many detections, and an empty table with room for 64 records.
-fn so_many(name: &[u8], n: usize) {
+fn so_many(rt: &impl Print, name: &[u8], n: usize) -> io::Result<()> {
     let mut config = good();
     config.capacity = 64;
     let mut storage = [0.25; 960];
@@ -297,7 +308,7 @@ fn so_many(name: &[u8], n: usize) {
     let scores = [1.0; 32];
     let has_scores = [1u8; 32];
     if n > 32 {
-        return;
+        return Ok(());
     }
     let r = by_value::match_detections(
         holding(fresh, 0, Phase::Match),
@@ -311,7 +322,7 @@ fn so_many(name: &[u8], n: usize) {
         no_pairs(),
         32,
     );
-    show(name, r);
+    show(rt, name, r)
 }
 
 // The table whose first record has run out of hits.
@@ -328,7 +339,7 @@ fn dying(t: Table) -> Table {
 }
 
 // A full table from which step 1 drops one record has room for one at once.
-fn freed_by_a_drop() {
+fn freed_by_a_drop(rt: &impl Print) -> io::Result<()> {
     let mut storage = [0.25; 30];
     let fresh = tracker::new(good(), &storage).table;
     let full = holding(fresh, 2, Phase::Predict);
@@ -349,77 +360,90 @@ fn freed_by_a_drop() {
         no_pairs(),
         32,
     );
-    show(b"room freed by a drop", r);
+    show(rt, b"room freed by a drop", r)
 }
 
-pub(crate) fn accepted() {
-    few_and_many();
-    full_tables();
-    freed_by_a_drop();
-    matrices();
-    thresholds();
-    negative_thresholds();
+pub(crate) fn accepted(rt: &impl Print) -> io::Result<()> {
+    few_and_many(rt)?;
+    full_tables(rt)?;
+    freed_by_a_drop(rt)?;
+    matrices(rt)?;
+    thresholds(rt)?;
+    negative_thresholds(rt)
 }
 
-fn full_tables() {
-    two_by(b"the table just full afterwards", 2, 1, 1.0, &[0.5, 0.25]);
+fn full_tables(rt: &impl Print) -> io::Result<()> {
     two_by(
+        rt,
+        b"the table just full afterwards",
+        2,
+        1,
+        1.0,
+        &[0.5, 0.25],
+    )?;
+    two_by(
+        rt,
         b"a full table, both hit",
         2,
         2,
         1.0,
         &[0.5, 0.25, 0.125, 0.75],
-    );
+    )?;
     two_by(
+        rt,
         b"a full table, one left over",
         2,
         2,
         1.0,
         &[0.5, 0.25, 2.0, 2.0],
-    );
+    )
 }
 
-fn matrices() {
+fn matrices(rt: &impl Print) -> io::Result<()> {
     let nan = 0.0 / 0.0;
-    two_by(b"a matrix of NaN", 4, 2, 1.0, &[nan, nan, nan, nan]);
+    two_by(rt, b"a matrix of NaN", 4, 2, 1.0, &[nan, nan, nan, nan])?;
     two_by(
+        rt,
         b"a matrix of NaN, a full table",
         2,
         2,
         1.0,
         &[nan, nan, nan, nan],
-    );
-    two_by(b"all entries equal", 4, 2, 1.0, &[0.5, 0.5, 0.5, 0.5]);
+    )?;
+    two_by(rt, b"all entries equal", 4, 2, 1.0, &[0.5, 0.5, 0.5, 0.5])
 }
 
-fn thresholds() {
+fn thresholds(rt: &impl Print) -> io::Result<()> {
     let nan = 0.0 / 0.0;
     let infinity = 1.0 / 0.0;
-    two_by(b"threshold NaN", 4, 2, nan, &[0.5, 0.25, 0.5, 0.25]);
+    two_by(rt, b"threshold NaN", 4, 2, nan, &[0.5, 0.25, 0.5, 0.25])?;
     two_by(
+        rt,
         b"threshold infinite",
         4,
         2,
         infinity,
         &[0.5, infinity, nan, 1.0e300],
-    );
+    )
 }
 
-fn negative_thresholds() {
+fn negative_thresholds(rt: &impl Print) -> io::Result<()> {
     let nan = 0.0 / 0.0;
     let infinity = 1.0 / 0.0;
     two_by(
+        rt,
         b"threshold minus infinite",
         4,
         2,
         -infinity,
         &[-1.0e300, -infinity, 0.0, nan],
-    );
+    )?;
     two_by(
+        rt,
         b"threshold negative",
         4,
         2,
         -1.0,
         &[-1.0, -1.5, -0.5, -1.25],
-    );
+    )
 }
