@@ -2,7 +2,8 @@
 ghost use Rattle.std.specs.Prelude.{◌+◌, ◌<◌, ◌≤◌, length};
 
 use crate::reading;
-use libc::STDOUT_FILENO;
+use std::io;
+use std::io::Input;
 use tracker::{Pair, Table, TrackerConfig};
 
 // Where the floats of a frame lie in its share of 4,192: coordinates, scores, distances, ReID entries.
@@ -26,16 +27,21 @@ struct Head {
 }
 
 // The whole job; at the input's end every word is 0, so that it ends at once.
-pub(crate) fn run(text: &mut [u8; 65536], c: &mut [usize; 6]) {
-    let rounds = reading::few(text, c, 1000000000);
-    let config = crate::settings(text, c);
+pub(crate) fn run(
+    rt: &(impl Input + Print),
+    text: &mut [u8; 65536],
+    c: &mut [usize; 6],
+) -> io::Result<()> {
+    let rounds = reading::few(rt, text, c, 1000000000)?;
+    let config = crate::settings(rt, text, c)?;
     // the refusal, which is 0
-    reading::word(text, c);
-    let frames = reading::few(text, c, 16);
+    reading::word(rt, text, c)?;
+    let frames = reading::few(rt, text, c, 16)?;
     let mut floats = [0.0; 67072];
     let mut marks = [0u8; 512];
     let each = reading::area(config.points, config.dims);
     let heads = take_frames(
+        rt,
         text,
         c,
         config.points,
@@ -43,20 +49,19 @@ pub(crate) fn run(text: &mut [u8; 65536], c: &mut [usize; 6]) {
         frames,
         &mut floats,
         &mut marks,
-    );
+    )?;
     let mut sums = [0u64; 5];
     replay(rounds, config, heads, frames, &floats, &marks, &mut sums);
-    print(&sums);
+    print(rt, &sums)
 }
 
-fn print(sums: &[u64; 5]) {
-    io::write_all(STDOUT_FILENO, b"frames ");
-    crate::put(sums[0], b" pairs ");
-    crate::put(sums[1], b" active ");
-    crate::put(sums[2], b" total ");
-    crate::put(sums[3], b" distances ");
-    io::print_hex(STDOUT_FILENO, sums[4], 1);
-    io::write_all(STDOUT_FILENO, b"\n");
+fn print(rt: &impl Print, sums: &[u64; 5]) -> io::Result<()> {
+    rt.write_all(b"frames ")?;
+    crate::put(rt, sums[0], b" pairs ")?;
+    crate::put(rt, sums[1], b" active ")?;
+    crate::put(rt, sums[2], b" total ")?;
+    crate::put(rt, sums[3], b" distances ")?;
+    println!(rt; "{:x}", sums[4])
 }
 
 fn no_heads() -> [Head; 16] {
@@ -71,6 +76,7 @@ fn no_heads() -> [Head; 16] {
 }
 
 fn take_frames(
+    rt: &impl Input,
     text: &mut [u8; 65536],
     c: &mut [usize; 6],
     points: usize,
@@ -78,20 +84,21 @@ fn take_frames(
     frames: usize,
     floats: &mut [f64; 67072],
     marks: &mut [u8; 512],
-) -> [Head; 16] {
+) -> io::Result<[Head; 16]> {
     let mut heads = no_heads();
     let mut i = 0;
     while i < 16 {
         if i < frames {
-            let head = take_frame(text, c, points, each, i, floats, marks);
+            let head = take_frame(rt, text, c, points, each, i, floats, marks)?;
             heads[i] = head;
         }
         i += 1;
     }
-    heads
+    Ok(heads)
 }
 
 fn take_frame(
+    rt: &impl Input,
     text: &mut [u8; 65536],
     c: &mut [usize; 6],
     points: usize,
@@ -99,82 +106,94 @@ fn take_frame(
     i: usize,
     floats: &mut [f64; 67072],
     marks: &mut [u8; 512],
-) -> Head {
-    let period = reading::few(text, c, 1000);
-    let detections = reading::few(text, c, 32);
-    let records = reading::few(text, c, 64);
+) -> io::Result<Head> {
+    let period = reading::few(rt, text, c, 1000)?;
+    let detections = reading::few(rt, text, c, 32)?;
+    let records = reading::few(rt, text, c, 64)?;
     let all = reading::area(detections, each);
-    let coordinates = take_floats(text, c, floats, i, 0, all);
+    let coordinates = take_floats(rt, text, c, floats, i, 0, all)?;
     let marked = reading::area(detections, points);
-    let scores = take_floats(text, c, floats, i, SCORES, marked);
-    take_marks(text, c, marks, i, detections);
+    let scores = take_floats(rt, text, c, floats, i, SCORES, marked)?;
+    take_marks(rt, text, c, marks, i, detections)?;
     let measured = reading::area(detections, records);
-    let distances = take_floats(text, c, floats, i, DISTANCES, measured);
-    let looks = take_looks(text, c, i, floats);
-    Head {
+    let distances = take_floats(rt, text, c, floats, i, DISTANCES, measured)?;
+    let looks = take_looks(rt, text, c, i, floats)?;
+    Ok(Head {
         period,
         detections,
         coordinates,
         scores,
         distances,
         looks,
-    }
+    })
 }
 
 // The ReID matrix of frame i.
 fn take_looks(
+    rt: &impl Input,
     text: &mut [u8; 65536],
     c: &mut [usize; 6],
     i: usize,
     floats: &mut [f64; 67072],
-) -> usize {
-    let candidates = reading::few(text, c, 32);
-    let old = reading::few(text, c, 64);
-    take_floats(text, c, floats, i, LOOKS, reading::area(candidates, old))
+) -> io::Result<usize> {
+    let candidates = reading::few(rt, text, c, 32)?;
+    let old = reading::few(rt, text, c, 64)?;
+    take_floats(
+        rt,
+        text,
+        c,
+        floats,
+        i,
+        LOOKS,
+        reading::area(candidates, old),
+    )
 }
 
 // The next n floats, at a place of frame i's share; how many were put there.
 fn take_floats(
+    rt: &impl Input,
     text: &mut [u8; 65536],
     c: &mut [usize; 6],
     floats: &mut [f64; 67072],
     i: usize,
     place: usize,
     n: usize,
-) -> usize
+) -> io::Result<usize>
     requires { place ≤ 2144 }
 {
     if i >= 16 {
-        return 0;
+        return Ok(0);
     }
     let many = at_most(n, 2048);
     let at = i * SHARE + place;
     let mut k = 0;
     while k < many {
-        floats[at + k] = words::float_of(reading::word(text, c));
+        floats[at + k] = words::float_of(reading::word(rt, text, c)?);
         k += 1;
     }
-    many
+    Ok(many)
 }
 
 // The next n words, 0 or 1, in frame i's share.
 fn take_marks(
+    rt: &impl Input,
     text: &mut [u8; 65536],
     c: &mut [usize; 6],
     marks: &mut [u8; 512],
     i: usize,
     n: usize,
-) {
+) -> io::Result<()> {
     if i >= 16 {
-        return;
+        return Ok(());
     }
     let many = at_most(n, 32);
     let at = i * 32;
     let mut k = 0;
     while k < many {
-        marks[at + k] = reading::few(text, c, 1) as u8;
+        marks[at + k] = reading::few(rt, text, c, 1)? as u8;
         k += 1;
     }
+    Ok(())
 }
 
 fn at_most(n: usize, most: usize) -> usize
@@ -325,7 +344,7 @@ fn step_3(
 fn add(sums: &mut [u64; 5], place: usize, n: u64)
     requires { place < 5 }
 {
-    sums[place] = std::num::wrapping_add_u64(sums[place], n);
+    sums[place] = sums[place].wrapping_add(n);
 }
 
 // How many pairs, and the bits of their distances.

@@ -1,7 +1,8 @@
 // The words of the input, one after the other: see FORMAT.md. What was read so far stands in a cursor.
-ghost use Rattle.std.specs.Prelude.{◌≡◌, ◌≤◌, length};
+ghost use Rattle.std.specs.Prelude.{◌≡◌, ◌≤◌, IfOk, length};
 
-use libc::STDIN_FILENO;
+use std::io;
+use std::io::{Input, Read};
 
 // The cursor's places: how much of the text was read and how much of it is filled; the frame and the record at hand; how many differences the trace has so far.
 pub(crate) const AT: usize = 0;
@@ -14,21 +15,36 @@ pub(crate) const RECORD: usize = 3;
 
 pub(crate) const DIFFERENCES: usize = 4;
 
+// Reads until the text is full or the input ends: how much of it was filled.
+fn read_full(rt: &impl Input, text: &mut [u8; 65536]) -> io::Result<usize>
+    ensures { IfOk result (λ n. n ≤ 65536) }
+{
+    let mut done = 0;
+    while done < 65536 {
+        let n = rt.reader().read(&mut text[done..])?;
+        if n == 0 {
+            break;
+        }
+        done += n;
+    }
+    Ok(done)
+}
+
 // The next byte, or 0 at the input's end.
-fn byte(text: &mut [u8; 65536], c: &mut [usize; 6]) -> u8 {
+fn byte(rt: &impl Input, text: &mut [u8; 65536], c: &mut [usize; 6]) -> io::Result<u8> {
     if c[AT] >= c[FILLED] {
-        c[FILLED] = io::read_full(STDIN_FILENO, text);
+        c[FILLED] = read_full(rt, text)?;
         c[AT] = 0;
     }
     let at = c[AT];
     if at >= c[FILLED] {
-        return 0;
+        return Ok(0);
     }
     if at >= 65536 {
-        return 0;
+        return Ok(0);
     }
     c[AT] = at + 1;
-    text[at]
+    Ok(text[at])
 }
 
 // What a hexadecimal digit stands for, 16 for any other byte.
@@ -49,29 +65,34 @@ fn digit(b: u8) -> u64 {
 }
 
 // The next word, with the byte that ends it.
-pub(crate) fn word(text: &mut [u8; 65536], c: &mut [usize; 6]) -> u64 {
+pub(crate) fn word(rt: &impl Input, text: &mut [u8; 65536], c: &mut [usize; 6]) -> io::Result<u64> {
     let mut w = 0u64;
     let mut i = 0usize;
     while i < 17 {
-        let d = digit(byte(text, c));
+        let d = digit(byte(rt, text, c)?);
         if d == 16 {
-            return w;
+            return Ok(w);
         }
         w = w << 4 | d;
         i += 1;
     }
-    w
+    Ok(w)
 }
 
 // The next word as a number, cut down to the most that can be meant.
-pub(crate) fn few(text: &mut [u8; 65536], c: &mut [usize; 6], most: usize) -> usize
-    ensures { result ≤ most }
+pub(crate) fn few(
+    rt: &impl Input,
+    text: &mut [u8; 65536],
+    c: &mut [usize; 6],
+    most: usize,
+) -> io::Result<usize>
+    ensures { IfOk result (λ n. n ≤ most) }
 {
-    let w = word(text, c);
+    let w = word(rt, text, c)?;
     if w < most as u64 {
-        return w as usize;
+        return Ok(w as usize);
     }
-    most
+    Ok(most)
 }
 
 // The product of two numbers, 0 where one is more than can be meant.
@@ -88,29 +109,39 @@ pub(crate) fn area(a: usize, b: usize) -> usize
 }
 
 // The next n floats, in front of zeros.
-pub(crate) fn floats(text: &mut [u8; 65536], c: &mut [usize; 6], n: usize) -> [f64; 4096]
+pub(crate) fn floats(
+    rt: &impl Input,
+    text: &mut [u8; 65536],
+    c: &mut [usize; 6],
+    n: usize,
+) -> io::Result<[f64; 4096]>
     requires { n ≤ 4096 }
-    ensures { 4096 ≡ length result }
+    ensures { IfOk result (λ xs. 4096 ≡ length xs) }
 {
     let mut out = [0.0; 4096];
     let mut i = 0;
     while i < n {
-        out[i] = words::float_of(word(text, c));
+        out[i] = words::float_of(word(rt, text, c)?);
         i += 1;
     }
-    out
+    Ok(out)
 }
 
 // The next n words, 0 or 1, in front of zeros.
-pub(crate) fn bytes(text: &mut [u8; 65536], c: &mut [usize; 6], n: usize) -> [u8; 64]
+pub(crate) fn bytes(
+    rt: &impl Input,
+    text: &mut [u8; 65536],
+    c: &mut [usize; 6],
+    n: usize,
+) -> io::Result<[u8; 64]>
     requires { n ≤ 64 }
-    ensures { 64 ≡ length result }
+    ensures { IfOk result (λ xs. 64 ≡ length xs) }
 {
     let mut out = [0u8; 64];
     let mut i = 0;
     while i < n {
-        out[i] = few(text, c, 1) as u8;
+        out[i] = few(rt, text, c, 1)? as u8;
         i += 1;
     }
-    out
+    Ok(out)
 }
