@@ -44,6 +44,7 @@ fn do_lengths_fit(
 }
 
 // The first refusal that can be told before the picks.
+#[tactic(auto, unfolding(table::specs::Refusals::first_due))]
 pub fn given_refusal(
     t: Table,
     floats: usize,
@@ -75,6 +76,7 @@ pub fn given_refusal(
 }
 
 // The first refusal once the picks are known: of the coordinates, and of the records to open.
+#[tactic(auto, unfolding(table::specs::Refusals::first_due))]
 pub fn decided_refusal(config: TrackerConfig, counts: Counts, points: &[f64], more: usize) -> u32
     requires { (counts.records ≤ 64) × (counts.opened ≤ 2000000000) × (more ≤ 64) }
     ensures { result ≡ first_due (decided_checks config counts points.now more) }
