@@ -11,7 +11,7 @@ use lib.ListN.{length, get_or, set, drop, length-set}
 use lib.Seq.{get_or-set_same, get_or-set_other, drop-set-lt, get_or-drop, ext_get_or}
 use lib.Ieee.{Float, nan}
 use Rattle.laws.specs.Turns.{turns}
-use Rattle.laws.proofs.Turns.{turns-keep, turns_part}
+use Rattle.laws.proofs.Turns.{turns_keep, turns_part}
 use Rattle.filter.specs.declared.Coordinate.{Coordinate}
 use Rattle.filter.specs.declared.FilterSettings.{FilterSettings}
 use Rattle.filter.specs.Coordinate.{started, predicted, updated}
@@ -82,14 +82,14 @@ module _ (n j : ℕ) (c : Coordinate) (l : List Float) where
 
 module _ (g : ℕ → Coordinate → Coordinate) (n : ℕ) (l : List Float) where
   length-after : (k : ℕ) → length (turns (turn g n) k l) ≡ length l
-  length-after k = turns-keep (turn g n) length k l (λ j b h. length_with n j (g j (coordinate_at n j b)) b)
+  length-after k = turns_keep (turn g n) length k l (λ j b h. length_with n j (g j (coordinate_at n j b)) b)
 
   pub length-each : length (each g n l) ≡ length l
   length-each = length-after n
 
   -- coordinate j afterwards is the step of coordinate j before
-  pub each-coordinate : (j : ℕ) → j < n → 6 * n ≤ length l → coordinate_at n j (each g n l) ≡ g j (coordinate_at n j l)
-  each-coordinate j h f =
+  pub each_coordinate : (j : ℕ) → j < n → 6 * n ≤ length l → coordinate_at n j (each g n l) ≡ g j (coordinate_at n j l)
+  each_coordinate j h f =
       turns_part (turn g n) (coordinate_at n) g n l
       (λ k hk. same n k (g k (coordinate_at n k (turns (turn g n) k l))) (turns (turn g n) k l) hk (omega (arith, length-after k)))
       (λ i k b hi hk d. other n k (g k (coordinate_at n k b)) b i hi hk d)
@@ -98,7 +98,7 @@ module _ (g : ℕ → Coordinate → Coordinate) (n : ℕ) (l : List Float) wher
   -- what lies behind the coordinates stays
   pub each_rest : drop (6 * n) (each g n l) ≡ drop (6 * n) l
   each_rest =
-      turns-keep (turn g n) (drop (6 * n)) n l (λ j b h. behind n j (g j (coordinate_at n j b)) b (6 * n) (omega arith))
+      turns_keep (turn g n) (drop (6 * n)) n l (λ j b h. behind n j (g j (coordinate_at n j b)) b (6 * n) (omega arith))
 
 -- ---- nothing else is in a block: its coordinates and what lies behind them determine it
 
@@ -138,13 +138,13 @@ block_ext n l₁ l₂ e f same_at rest =
 -- ---- in the words of the page
 
 module _ (n j : ℕ) (l : List Float) (h : j < n) (fits : 6 * n ≤ length l) where
-  pub made-coordinate : (f : FilterSettings) (z : List Float) → coordinate_at n j (made_block f z n l) ≡ started f (get_or z j nan)
-  made-coordinate f z = each-coordinate (start_of f z) n l j h fits
+  pub made_coordinate : (f : FilterSettings) (z : List Float) → coordinate_at n j (made_block f z n l) ≡ started f (get_or z j nan)
+  made_coordinate f z = each_coordinate (start_of f z) n l j h fits
 
-  pub predicted-coordinate : coordinate_at n j (predicted_block n l) ≡ predicted (coordinate_at n j l)
-  predicted-coordinate = each-coordinate predict_of n l j h fits
+  pub predicted_coordinate : coordinate_at n j (predicted_block n l) ≡ predicted (coordinate_at n j l)
+  predicted_coordinate = each_coordinate predict_of n l j h fits
 
-  pub updated-coordinate : (f : FilterSettings) (k : ℕ) (z : List Float) (has : Bool) (t : Float) (scores : List Float)
+  pub updated_coordinate : (f : FilterSettings) (k : ℕ) (z : List Float) (has : Bool) (t : Float) (scores : List Float)
       → coordinate_at n j (updated_block f k z has t scores n l)
       ≡ updated f (get_or z j nan) (observed (mask_exists has t scores) t (get_or scores (j / k) nan)) (coordinate_at n j l)
-  updated-coordinate f k z has t scores = each-coordinate (update_of f k z (mask_exists has t scores) t scores) n l j h fits
+  updated_coordinate f k z has t scores = each_coordinate (update_of f k z (mask_exists has t scores) t scores) n l j h fits

@@ -11,9 +11,9 @@ use lib.Dec.{eqb, ltb}
 use lib.ListN.{length}
 use Rattle.laws.specs.Lists.{below, keep, any, holds, times}
 
-pub bit_at_most-one : (b : Bool) → cond b 1 0 ≤ 1
-bit_at_most-one true = omega arith
-bit_at_most-one false = omega arith
+pub bit_at_most_one : (b : Bool) → cond b 1 0 ≤ 1
+bit_at_most_one true = omega arith
+bit_at_most_one false = omega arith
 
 -- a sum of which both parts count, or neither
 both_or_none : (v : Bool) (a b : ℕ) → cond v a 0 + cond v b 0 ≡ cond v (a + b) 0
@@ -68,7 +68,7 @@ module _ (x : ℕ) where
       next false e = rw (further e (ltb x n) refl) (omega arith)
 
   pub below_once : (n : ℕ) → times x (below n) ≤ 1
-  below_once n = rw (times_below n) (bit_at_most-one (ltb x n))
+  below_once n = rw (times_below n) (bit_at_most_one (ltb x n))
 
   pub holds-times : (l : List ℕ) → holds x l ≡ ltb 0 (times x l)
   unfolding any times
@@ -127,11 +127,11 @@ unfolding times
 none_stands [] none = refl
 none_stands (y ∷ l) none = absurd (omega (arith, rw (eq-eqb y y refl) at (none y)))
 
-pub few-below : (n : ℕ) (l : List ℕ) → ((x : ℕ) → times x l ≤ times x (below n)) → length l ≤ n
+pub few_below : (n : ℕ) (l : List ℕ) → ((x : ℕ) → times x l ≤ times x (below n)) → length l ≤ n
 unfolding below times
-few-below zero l most = omega (arith, none_stands l (λ x. omega (arith, most x)))
-few-below (suc n) l most =
-    omega (arith, without n l, most n, below_once n (suc n), few-below n (keep (λ y. not (eqb y n)) l) (λ x. rw (times-keep x (λ y. not (eqb y n)) l) (go x (eqb x n) refl)))
+few_below zero l most = omega (arith, none_stands l (λ x. omega (arith, most x)))
+few_below (suc n) l most =
+    omega (arith, without n l, most n, below_once n (suc n), few_below n (keep (λ y. not (eqb y n)) l) (λ x. rw (times-keep x (λ y. not (eqb y n)) l) (go x (eqb x n) refl)))
   where
     go : (x : ℕ) (b : Bool) → eqb x n ≡ b → cond (not b) (times x l) 0 ≤ times x (below n)
     go x true e = omega arith

@@ -69,8 +69,8 @@ every_below zero each = none
 every_below (suc n) each = every_append (every_below n (λ i h. each i (omega arith))) (one (each n (omega arith)) none)
 
 -- in an array
-pub each-padded : {limit count : ℕ} (n : ℕ) (l : List ℕ) → length l ≡ count → Every (λ x. x < limit) l → EachBelow limit count (padded n l)
-each-padded n l e all i h =
+pub each_padded : {limit count : ℕ} (n : ℕ) (l : List ℕ) → length l ≡ count → Every (λ x. x < limit) l → EachBelow limit count (padded n l)
+each_padded n l e all i h =
     let inside : i < length l = omega arith in
     rw (filled_at n 0 l i 0 inside) (every_at i 0 all inside)
 

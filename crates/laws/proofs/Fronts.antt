@@ -17,8 +17,8 @@ module _ {A : Type 0} (f : List A) (n : ℕ) (l : List A) (e : length f ≡ n) w
       let j : n + (k - n) ≡ k = omega arith in
       rw (i, j) at (drop-append-add f (drop n l) (k - n) ∙ drop-drop (k - n) n l)
 
-  pub front-get_or-behind : (k : ℕ) (z : A) → n ≤ k → get_or (f ++ drop n l) k z ≡ get_or l k z
-  front-get_or-behind k z h =
+  pub front_get_or_behind : (k : ℕ) (z : A) → n ≤ k → get_or (f ++ drop n l) k z ≡ get_or l k z
+  front_get_or_behind k z h =
       let i : length f + (k - n) ≡ k = omega arith in
       let j : n + (k - n) ≡ k = omega arith in
       rw (i, j) at (get_or-append-add f (drop n l) (k - n) z ∙ get_or-drop n l (k - n) z)

@@ -49,9 +49,9 @@ length-below zero = refl
 length-below (suc n) = length_snoc (below n) n ∙ ap suc (length-below n)
 
 -- one place more, with what is made of its number
-pub filled-below : {A : Type 0} (n : ℕ) (d : A) (g : ℕ → A) (i : ℕ) → i < n → set (filled n d (map g (below i))) i (g i) ≡ filled n d (map g (below (i + 1)))
+pub filled_below : {A : Type 0} (n : ℕ) (d : A) (g : ℕ → A) (i : ℕ) → i < n → set (filled n d (map g (below i))) i (g i) ≡ filled n d (map g (below (i + 1)))
 unfolding below
-filled-below n d g i h =
+filled_below n d g i h =
     rw (add-one i, map-append g (below i) (i ∷ [])) (filled_next n d (map g (below i)) (g i) (length-map (below i) g ∙ length-below i) h)
 
 -- a list by its elements
@@ -61,8 +61,8 @@ unfolding below
 by_elements g l d same zero h = refl
 by_elements g l d same (suc n) h = rw (map-append, by_elements g l d same n (omega arith), same n h, take-suc l n d h)
 
-pub take-each : {A : Type 0} (l : List A) (d : A) (n : ℕ) → n ≤ length l → map (λ k. get_or l k d) (below n) ≡ take n l
-take-each l d = by_elements (λ k. get_or l k d) l d (λ i h. refl)
+pub take_each : {A : Type 0} (l : List A) (d : A) (n : ℕ) → n ≤ length l → map (λ k. get_or l k d) (below n) ≡ take n l
+take_each l d = by_elements (λ k. get_or l k d) l d (λ i h. refl)
 
 choose_snoc : {A : Type 0} (t b : Bool) (y x : A) (k : List A)
     → cond t (y ∷ (k ++ cond b (x ∷ []) [])) (k ++ cond b (x ∷ []) []) ≡ cond t (y ∷ k) k ++ cond b (x ∷ []) []

@@ -52,8 +52,8 @@ module _ {A : Type 0} where
       rw (front, behind, both) (simp (append_assoc, add_assoc))
 
   -- one element
-  pub paste-one : (d : List A) (k : ℕ) (x : A) → k < length d → set d k x ≡ paste d k (x ∷ []) 1
-  paste-one d k x h = rw add-one (set_split d k x h ∙ sym (append_snoc (take k d) x (drop (suc k) d)))
+  pub paste_one : (d : List A) (k : ℕ) (x : A) → k < length d → set d k x ≡ paste d k (x ∷ []) 1
+  paste_one d k x h = rw add-one (set_split d k x h ∙ sym (append_snoc (take k d) x (drop (suc k) d)))
 
   -- a turn of the loop that moves elements down: what it reads, at k, is still the old element
   pub move_suc : (d : List A) (at from j i k : ℕ) (z : A) → i ≡ at + j → k ≡ from + j → at ≤ from → from + j < length d

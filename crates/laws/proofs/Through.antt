@@ -26,17 +26,17 @@ module _ {X A : Type 0} (turn : X → A → A) where
   through_hold P [] a kept p = p
   through_hold P (x ∷ l) a kept p = through_hold P l (turn x a) kept (kept x a p)
 
-  pub through-keep : {B : Type 0} (view : A → B) → ((x : X) (a : A) → view (turn x a) ≡ view a) → (l : List X) (a : A)
+  pub through_keep : {B : Type 0} (view : A → B) → ((x : X) (a : A) → view (turn x a) ≡ view a) → (l : List X) (a : A)
       → view (through turn l a) ≡ view a
-  through-keep view kept l a = through_hold (λ b. view b ≡ view a) l a (λ x b e. kept x b ∙ e) refl
+  through_keep view kept l a = through_hold (λ b. view b ≡ view a) l a (λ x b e. kept x b ∙ e) refl
 
   -- a turn that gives one thing for its element gives the elements again
-  pub gathered-each : {B : Type 0} (gives : X → A → List B) (of : B → X) → ((x : X) (a : A) → map of (gives x a) ≡ x ∷ [])
+  pub gathered_each : {B : Type 0} (gives : X → A → List B) (of : B → X) → ((x : X) (a : A) → map of (gives x a) ≡ x ∷ [])
       → (l : List X) (a : A) → map of (gathered turn gives l a) ≡ l
   unfolding gathered
-  gathered-each gives of each [] a = refl
-  gathered-each gives of each (x ∷ l) a =
-      map-append of (gives x a) (gathered turn gives l (turn x a)) ∙ rw (each x a, gathered-each gives of each l (turn x a))
+  gathered_each gives of each [] a = refl
+  gathered_each gives of each (x ∷ l) a =
+      map-append of (gives x a) (gathered turn gives l (turn x a)) ∙ rw (each x a, gathered_each gives of each l (turn x a))
 
 -- what is so of a state that stays, of two stretches in a row and of each turn with all it gives is so of all turns with all they give
 module _ {X A B C : Type 0} (turn : X → A → A) (gives : X → A → List B) (also : X → A → List C)

@@ -13,12 +13,12 @@ unfolding turns
 turns_next turn k a e i = rw (add-one k) (e ∙ ap (turn k) i)
 
 -- what each turn keeps, all of them keep
-pub turns-keep : {A B : Type 0} (turn : ℕ → A → A) (view : A → B) (n : ℕ) (a : A)
+pub turns_keep : {A B : Type 0} (turn : ℕ → A → A) (view : A → B) (n : ℕ) (a : A)
     → ((k : ℕ) (b : A) → k < n → view (turn k b) ≡ view b) → view (turns turn n a) ≡ view a
 unfolding turns
-turns-keep turn view zero a kept = refl
-turns-keep turn view (suc n) a kept =
-    kept n (turns turn n a) (omega arith) ∙ turns-keep turn view n a (λ k b h. kept k b (omega arith))
+turns_keep turn view zero a kept = refl
+turns_keep turn view (suc n) a kept =
+    kept n (turns turn n a) (omega arith) ∙ turns_keep turn view n a (λ k b h. kept k b (omega arith))
 
 -- what each turn keeps true stays true
 pub turns_hold : {A : Type 0} (turn : ℕ → A → A) (P : A → Type 0) (n : ℕ) (a : A)
@@ -36,7 +36,7 @@ unfolding turns
 turns_once turn view g i zero a h here there = absurd (omega arith)
 turns_once turn view g i (suc n) a h here there =
     ⊎_elim
-    (λ (e : i ≡ n). rw (← e) (here ∙ ap g (turns-keep turn view i a (λ k b hk. there k b (omega arith) (omega arith)))))
+    (λ (e : i ≡ n). rw (← e) (here ∙ ap g (turns_keep turn view i a (λ k b hk. there k b (omega arith) (omega arith)))))
     (λ (q : i < n).
     there n (turns turn n a) (omega arith) (omega arith)
     ∙ turns_once turn view g i n a q here (λ k b hk. there k b (omega arith)))

@@ -84,15 +84,15 @@ weight-below w (suc n) l most =
 
 -- places, each once and below n: what is read off them stands there no more often than in what is read off all places below n
 module _ {n : ℕ} {l : List ℕ} (inside : Every (λ i. i < n) l) (once : (x : ℕ) → times x l ≤ 1) where
-  places-below : (x : ℕ) → times x l ≤ times x (below n)
-  places-below x = rw (times_below x n) (go (ltb x n) refl)
+  places_below : (x : ℕ) → times x l ≤ times x (below n)
+  places_below x = rw (times_below x n) (go (ltb x n) refl)
     where
       go : (b : Bool) → ltb x n ≡ b → times x l ≤ cond b 1 0
       go true e = once x
       go false e = omega (arith, above inside x (ltb-false x n e))
 
   pub read_below : (g : ℕ → ℕ) (x : ℕ) → times x (map g l) ≤ times x (map g (below n))
-  read_below g x = rw (times-map x g l, times-map x g (below n)) (weight-below (λ i. mark x (g i)) n l places-below)
+  read_below g x = rw (times-map x g l, times-map x g (below n)) (weight-below (λ i. mark x (g i)) n l places_below)
 
 -- ---- what a test keeps weighs no more
 

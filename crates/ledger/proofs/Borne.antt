@@ -14,7 +14,7 @@ use Rattle.parts.specs.declared.TrackerConfig.{TrackerConfig}
 use Rattle.table.specs.declared.Table.{Table}
 use Rattle.table.specs.Making.{made}
 use Rattle.table.specs.Slots.{name_of, table_objects}
-use Rattle.table.proofs.MakingLaws.{accepted-fresh}
+use Rattle.table.proofs.MakingLaws.{accepted_fresh}
 use Rattle.predict.specs.Step.{predict_table}
 use Rattle.matching_step.specs.Account.{Issue, issue, Standing, waits, has, Borne}
 use Rattle.matching_step.proofs.Bearing.{borne_on}
@@ -68,7 +68,7 @@ kept_on call d k =
     }
 
 fresh_kept : (c : TrackerConfig) (s : List Float) → (made c (length s)).refusal ≡ 0 → Kept (fresh c s)
-fresh_kept c s made-well = record { reached = reached_fresh c (length s) made-well; borne = rw (accepted-fresh c (length s) made-well) none }
+fresh_kept c s made-well = record { reached = reached_fresh c (length s) made-well; borne = rw (accepted_fresh c (length s) made-well) none }
 
 -- after each call every record in the table that initializes no more bears a permanent ID that the history issued to it, and one that initializes bears none
 pub ids_borne : (c : TrackerConfig) (s : List Float) → (made c (length s)).refusal ≡ 0 → (calls : List Call)
@@ -82,9 +82,9 @@ abbrev IfIssued : List Issue → ℕ → PermanentId → Type 0
 IfIssued issued name Unissued = Unit {0}
 IfIssued issued name (Issued k) = Memᴰ (issue k name) issued
 
-if-issued : {issued : List Issue} {name : ℕ} {i : Bool} {d : PermanentId} → Standing issued name i d → IfIssued issued name d
-if-issued waits = tt
-if-issued (has m) = m
+if_issued : {issued : List Issue} {name : ℕ} {i : Bool} {d : PermanentId} → Standing issued name i d → IfIssued issued name d
+if_issued waits = tt
+if_issued (has m) = m
 
 every_member : {A : Type 0} {P : A → Type 0} {x : A} {l : List A} → Every P l → Memᴰ x l → P x
 every_member none m = elim m [ ]
@@ -93,4 +93,4 @@ every_member (one p r) (Memᴰ.tail m) = every_member r m
 
 pub shown_as_issued : (c : TrackerConfig) (s : List Float) → (made c (length s)).refusal ≡ 0 → (calls : List Call) (o : TrackedObject) (k : ℕ)
     → Memᴰ o (table_objects (day_of c s calls).world.table) → o.life.id ≡ Issued k → Memᴰ (issue k (name_of o)) (ever_issued (day_of c s calls))
-shown_as_issued c s made-well calls o k there e = rw e at (if-issued (every_member (ids_borne c s made-well calls) there))
+shown_as_issued c s made-well calls o k there e = rw e at (if_issued (every_member (ids_borne c s made-well calls) there))

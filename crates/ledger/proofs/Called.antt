@@ -10,7 +10,7 @@ use Rattle.laws.proofs.Weighing.{ended}
 use Rattle.laws.proofs.Through.{through_hold}
 use Rattle.parts.specs.declared.TrackerConfig.{TrackerConfig}
 use Rattle.table.specs.Making.{settled, fresh_table, made}
-use Rattle.table.proofs.MakingLaws.{accepted-fresh}
+use Rattle.table.proofs.MakingLaws.{accepted_fresh}
 use Rattle.matching_step.specs.Step.{listed_pairs}
 use Rattle.tracker.specs.Calls.{listed_active}
 use Rattle.ledger.specs.History.{Call, predict, match, reid, total, current, World, after, refusal_of, did, entry_of, Day, goes_on, fresh, day_of}
@@ -53,7 +53,7 @@ fresh_counted c =
       opened_run = ended;
       globals_run = ended;
       issued_run = ended;
-      opened-count = refl;
+      opened_count = refl;
       placed = λ x. refl;
       weighed = λ w. omega arith;
       detections = none;
@@ -67,7 +67,7 @@ fresh_counted c =
 module _ (c : TrackerConfig) (s : List Float) (made-well : (made c (length s)).refusal ≡ 0) where
   fresh_kept : Kept (fresh c s)
   unfolding gather
-  fresh_kept = rw (accepted-fresh c (length s) made-well) (fresh_counted (settled c))
+  fresh_kept = rw (accepted_fresh c (length s) made-well) (fresh_counted (settled c))
 
   pub counted : (calls : List Call) → Kept (day_of c s calls)
   unfolding day_of

@@ -28,7 +28,7 @@ pub record Counted (l : List Entry) (t : Table) : Type 0 where
   pub opened_run : Run 1 (opened_names (opened_in l)) t.counts.initializing
   pub globals_run : Run 1 (opened_globals (opened_in l)) t.counts.global
   pub issued_run : Run 1 (issued_numbers (issued_in l)) t.counts.permanent
-  pub opened-count : t.counts.opened ≡ length (opened_in l)
+  pub opened_count : t.counts.opened ≡ length (opened_in l)
   pub placed : (x : ℕ)
       → times x (table_names t) + times x (dropped_in l) + times x (absorbed_names (absorbed_in l)) ≡ times x (opened_names (opened_in l))
   -- who was issued a permanent ID or still may be
@@ -82,17 +82,17 @@ module _ {l : List Entry} {t u : Table} {e : Entry} (c : Counted l t) (f : Fairl
   before_once : Once e.before
   before_once x = omega (arith, ap (times x) f.before, named_once c x)
 
-  before-known : Among e.before (opened_names (opened_in more))
-  before-known x = omega (arith, ap (times x) f.before, c.placed x, still_opened x)
+  before_known : Among e.before (opened_names (opened_in more))
+  before_known x = omega (arith, ap (times x) f.before, c.placed x, still_opened x)
 
   pub counted_on : Counted more u
   counted_on =
       record {
         ordered = f.ordered;
         opened_run = run_opened;
-        globals_run = rw (more_opened (λ o. o.global_id_of)) (run_append c.globals_run f.globals_run);
+        globals_run = rw (more_opened (λ o. o.global_id)) (run_append c.globals_run f.globals_run);
         issued_run = rw (more_issued (λ i. i.number)) (run_append c.issued_run f.issued_run);
-        opened-count = rw (gather_snoc (λ e. e.opened) l e) (omega (arith, f.opened, c.opened-count, length-append (opened_in l) e.opened));
+        opened_count = rw (gather_snoc (λ e. e.opened) l e) (omega (arith, f.opened, c.opened_count, length-append (opened_in l) e.opened));
         placed = placed_on;
         weighed =
             λ w.
@@ -107,7 +107,7 @@ module _ {l : List Entry} {t u : Table} {e : Entry} (c : Counted l t) (f : Fairl
         detections = every_append c.detections (one f.detections none);
         records = every_append c.records (one (λ x. omega (arith, f.records x, placed_on x, run_once run_opened x)) none);
         hit = every_append c.hit (one f.hit none);
-        known = every_append (every_weaker (λ e known x. le_trans (known x) (still_opened x)) c.known) (one before-known none);
+        known = every_append (every_weaker (λ e known x. le_trans (known x) (still_opened x)) c.known) (one before_known none);
         dropped = every_append c.dropped (one (f.dropped before_once) none);
         absorbed = every_append c.absorbed (one (f.absorbed before_once) none);
       }

@@ -28,10 +28,10 @@ module _ {l : List Entry} {t : Table} (c : Counted l t) where
   -- ---- the counts of the table
 
   pub opened_are : opened_names (opened_in l) ≡ up_from 1 t.counts.opened
-  opened_are = rw c.opened-count (rw length-map at (run_up c.opened_run))
+  opened_are = rw c.opened_count (rw length-map at (run_up c.opened_run))
 
   pub initializing_next : t.counts.initializing ≡ t.counts.opened + 1
-  initializing_next = omega (arith, run_end c.opened_run, c.opened-count, length-map (opened_in l) (λ o. o.name))
+  initializing_next = omega (arith, run_end c.opened_run, c.opened_count, length-map (opened_in l) (λ o. o.name))
 
   pub permanent_next : t.counts.permanent ≡ length (issued_in l) + 1
   permanent_next = omega (arith, run_end c.issued_run, length-map (issued_in l) (λ i. i.number))
@@ -45,12 +45,12 @@ module _ {l : List Entry} {t : Table} (c : Counted l t) where
   holders x = omega (arith, c.weighed (mark x), weight_mark x (issued_names (issued_in l)), weight_mark x (opened_names (opened_in l)))
 
   -- no more are issued than opened, those that wait among them
-  pub issued-few : length (issued_in l) + length (table_initializing t) ≤ t.counts.opened
-  issued-few =
+  pub issued_few : length (issued_in l) + length (table_initializing t) ≤ t.counts.opened
+  issued_few =
       omega (
         arith,
         c.weighed (λ y. 1),
-        c.opened-count,
+        c.opened_count,
         weight-one (issued_names (issued_in l)),
         weight-one (table_initializing t),
         weight-one (opened_names (opened_in l)),
@@ -58,8 +58,8 @@ module _ {l : List Entry} {t : Table} (c : Counted l t) where
         length-map (issued_in l) (λ i. i.name),
       )
 
-  pub permanent-most : t.counts.permanent ≤ t.counts.opened + 1
-  permanent-most = omega (arith, permanent_next, issued-few)
+  pub permanent_most : t.counts.permanent ≤ t.counts.opened + 1
+  permanent_most = omega (arith, permanent_next, issued_few)
 
   pub total_is : whole_table t ≡ true → total_answer t ≡ record { refusal = 0; count = length (issued_in l) }
   unfolding total_answer first_due
@@ -90,15 +90,15 @@ demanded d k whole =
       absorbed = k.absorbed;
       numbers = issued_are k;
       holders = λ x. omega (arith, holders k x, run_once k.opened_run x);
-      holders-opened = holders k;
+      holders_opened = holders k;
       total = total_is k whole;
     }
 
 -- ---- any sequence of calls from a fresh tracker
 
 module _ (c : TrackerConfig) (s : List Float) (made-well : (made c (length s)).refusal ≡ 0) (calls : List Call) where
-  pub permanent-few : (day_of c s calls).world.table.counts.permanent ≤ (day_of c s calls).world.table.counts.opened + 1
-  permanent-few = permanent-most (counted c s made-well calls)
+  pub permanent_few : (day_of c s calls).world.table.counts.permanent ≤ (day_of c s calls).world.table.counts.opened + 1
+  permanent_few = permanent_most (counted c s made-well calls)
 
   pub demand_3 : whole_table (day_of c s calls).world.table ≡ true → Demand (day_of c s calls)
   demand_3 = demanded (day_of c s calls) (counted c s made-well calls)

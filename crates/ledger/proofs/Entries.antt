@@ -23,11 +23,11 @@ abbrev in_frames : List (List Entry) → List Entry
 in_frames l = gather (λ frame. frame) l
 
 -- an entry joins the last frame, or waits where there is none
-in-frames : (e : Entry) (l : List (List Entry)) → waiting e l ++ in_frames (joined e l) ≡ in_frames l ++ (e ∷ [])
+in_frames_joined : (e : Entry) (l : List (List Entry)) → waiting e l ++ in_frames (joined e l) ≡ in_frames l ++ (e ∷ [])
 unfolding gather joined waiting
-in-frames e [] = refl
-in-frames e (f ∷ []) = append-nil (f ++ (e ∷ [])) ∙ ap (λ (r : List Entry). r ++ (e ∷ [])) (sym (append-nil f))
-in-frames e (f ∷ (g ∷ l)) = ap (λ (r : List Entry). f ++ r) (in-frames e (g ∷ l)) ∙ sym (append_assoc f (in_frames (g ∷ l)) (e ∷ []))
+in_frames_joined e [] = refl
+in_frames_joined e (f ∷ []) = append-nil (f ++ (e ∷ [])) ∙ ap (λ (r : List Entry). r ++ (e ∷ [])) (sym (append-nil f))
+in_frames_joined e (f ∷ (g ∷ l)) = ap (λ (r : List Entry). f ++ r) (in_frames_joined e (g ∷ l)) ∙ sym (append_assoc f (in_frames (g ∷ l)) (e ∷ []))
 
 pub entries_on : (call : Call) (d : Day) → entries (goes_on call d) ≡ entries d ++ (entry_of call d.world ∷ [])
 unfolding goes_on
@@ -39,5 +39,5 @@ entries_on call d = go (begins (entry_of call d.world)) (entry_of call d.world)
     go true e = rw (gather_snoc (λ frame. frame) d.frames (e ∷ [])) (sym (append_assoc d.early (in_frames d.frames) (e ∷ [])))
     go false e =
         append_assoc d.early (waiting e d.frames) (in_frames (joined e d.frames))
-        ∙ ap (λ (r : List Entry). d.early ++ r) (in-frames e d.frames)
+        ∙ ap (λ (r : List Entry). d.early ++ r) (in_frames_joined e d.frames)
         ∙ sym (append_assoc d.early (in_frames d.frames) (e ∷ []))

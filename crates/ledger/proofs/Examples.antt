@@ -28,10 +28,10 @@ use Rattle.ledger.specs.Demand.{gather, entries, ever_opened}
 use Rattle.ledger.specs.Examples.{settings, half, far, meeting, floats, lowest_hit, lowest_reid, seen, until_too_many, too_many, carrying_on}
 
 -- record 1 is candidate and old one: it leaves
-pub own_old-one : (table_names (reid_table (meeting (0 ∷ []) (0 ∷ [])) floats (half ∷ [])) ≡ 2 ∷ [])
+pub own_old_one : (table_names (reid_table (meeting (0 ∷ []) (0 ∷ [])) floats (half ∷ [])) ≡ 2 ∷ [])
     × (map (λ a. a.name) (absorbed (meeting (0 ∷ []) (0 ∷ [])) floats (half ∷ [])) ≡ 1 ∷ [])
 unfolding reid_table slots_staying slots_merged merges absorbed through greedy pick_then scan_rows scan_row smaller finite lt of_bits keep below any slots object_merged
-own_old-one = (refl, refl)
+own_old_one = (refl, refl)
 
 -- each is the other's old one: both leave
 pub absorb_each_other : (table_names (reid_table (meeting (0 ∷ 1 ∷ []) (1 ∷ 0 ∷ [])) floats (half ∷ far ∷ far ∷ half ∷ [])) ≡ [])
@@ -49,14 +49,14 @@ LeftUnwhole w =
     × (refusal_of (seen 0 []) (after predict w) ≡ 5)
 
 -- a hit counter falls below -20,000
-pub hit-below_range : LeftUnwhole lowest_hit
+pub hit_below_range : LeftUnwhole lowest_hit
 unfolding after first_due storage_need settings_in_range reid_between whole_table counts_whole records_whole record_whole points_whole ages_whole lists_whole names_below any keep below slots blocks_of predict_answer predict_storage predict_table predict_floats object_predicted life_predicted points_fallen turns
-hit-below_range = (refl, refl, refl, refl)
+hit_below_range = (refl, refl, refl, refl)
 
 -- a ReID counter falls below -1
-pub reid-below_range : LeftUnwhole lowest_reid
+pub reid_below_range : LeftUnwhole lowest_reid
 unfolding after first_due storage_need settings_in_range reid_between whole_table counts_whole records_whole record_whole points_whole ages_whole lists_whole names_below any keep below slots blocks_of predict_answer predict_storage predict_table predict_floats object_predicted life_predicted points_fallen turns
-reid-below_range = (refl, refl, refl, refl)
+reid_below_range = (refl, refl, refl, refl)
 
 -- ---- room for one record: the frame that asks for two more is refused with 13, and the day goes on
 

@@ -17,8 +17,8 @@ use Rattle.table.specs.declared.Phase.TheVariants.{Match, Reid}
 use Rattle.table.specs.declared.Table.{Table}
 use Rattle.table.specs.Making.{made}
 use Rattle.table.specs.Refusals.{Check, first_due, phase_number, step_checks}
-use Rattle.table.proofs.Due.{after-step, none-due}
-use Rattle.table.proofs.MakingLaws.{accepted-fresh}
+use Rattle.table.proofs.Due.{after_step, none_due}
+use Rattle.table.proofs.MakingLaws.{accepted_fresh}
 use Rattle.predict.proofs.StepLaws.{frames_rise}
 use Rattle.matching_step.proofs.AccountLaws as matching
 use Rattle.reid.proofs.StepLaws as merging
@@ -29,12 +29,12 @@ use Rattle.ledger.proofs.Calling.{done, called}
 
 next_step : (step : Phase) (t : Table) (floats : ℕ) (l : List Check) → first_due (step_checks step t floats ++ l) ≡ 0
     → phase_number t.phase ≡ phase_number step
-next_step step t floats l h = go (eqb (first_due (step_checks step t floats)) 0) refl (sym (after-step step t floats l) ∙ h)
+next_step step t floats l h = go (eqb (first_due (step_checks step t floats)) 0) refl (sym (after_step step t floats l) ∙ h)
   where
     go : (b : Bool) → eqb (first_due (step_checks step t floats)) 0 ≡ b → cond b (first_due l) (first_due (step_checks step t floats)) ≡ 0
         → phase_number t.phase ≡ phase_number step
     go true e h =
-        let due = none-due (step_checks step t floats) (omega arith, (omega arith, (omega arith, tt))) (eqb-true _ 0 e) in
+        let due = none_due (step_checks step t floats) (omega arith, (omega arith, (omega arith, tt))) (eqb-true _ 0 e) in
         eqb-true (phase_number t.phase) (phase_number step) (not-false _ due.1.1.0)
     go false e h = absurd (true≢false (rw h at e))
 
@@ -115,11 +115,11 @@ module _ (c : TrackerConfig) (s : List Float) (accepted : (made c (length s)).re
   unfolding day_of
   begun =
       through_hold goes_on Begun calls (fresh c s) begun_on
-      (rw (accepted-fresh c (length s) accepted) (record { frames = refl; first = λ z. refl; early = none }))
+      (rw (accepted_fresh c (length s) accepted) (record { frames = refl; first = λ z. refl; early = none }))
 
   pub frames_begun : length (day_of c s calls).frames ≡ (day_of c s calls).world.table.counts.frames
   frames_begun = begun.frames
 
   -- before the first frame there are only counts and refused calls
-  pub early-nothing : Every (λ e. e.step ≡ 0) (day_of c s calls).early
-  early-nothing = begun.early
+  pub early_nothing : Every (λ e. e.step ≡ 0) (day_of c s calls).early
+  early_nothing = begun.early

@@ -8,7 +8,7 @@ use lib.ListN.{length}
 use Rattle.laws.specs.Lists.{times}
 use Rattle.table.specs.declared.Table.{Table}
 use Rattle.table.specs.Slots.{records_back, table_names}
-use Rattle.table.proofs.SlotLaws.{records-length}
+use Rattle.table.proofs.SlotLaws.{records_length}
 use Rattle.reid.specs.Step.{slots_merged, slots_staying, reid_table, absorbed, absorbed_names}
 use Rattle.ledger.specs.History.{absorbed_by}
 use Rattle.reid.proofs.Composing.{merged_length}
@@ -24,8 +24,8 @@ module _ (t : Table) (s ds : List Float) (o : Ordered t) where
   long : length (reid_table t s ds).records ≡ 64
   unfolding reid_table
   long =
-      let first = records-length (slots_merged t s ds) t.records (omega (arith, merged_length t s ds, within o)) in
-      records-length (slots_staying t s ds) (records_back (slots_merged t s ds) t.records) (omega (arith, fewer, within o, first)) ∙ first ∙ o.long
+      let first = records_length (slots_merged t s ds) t.records (omega (arith, merged_length t s ds, within o)) in
+      records_length (slots_staying t s ds) (records_back (slots_merged t s ds) t.records) (omega (arith, fewer, within o, first)) ∙ first ∙ o.long
 
   ordered : Ordered (reid_table t s ds)
   unfolding reid_table times

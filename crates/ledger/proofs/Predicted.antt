@@ -20,11 +20,11 @@ use Rattle.tracked_object.specs.Object.{object_predicted}
 use Rattle.table.specs.declared.Table.{Table}
 use Rattle.table.specs.Making.{zero_object}
 use Rattle.table.specs.Slots.{Slot, objects_of, table_slots, name_of, table_objects, table_names, table_initializing}
-use Rattle.table.proofs.SlotLaws.{objects_length, slots_objects, records-length}
+use Rattle.table.proofs.SlotLaws.{objects_length, slots_objects, records_length}
 use Rattle.predict.specs.declared.Sort.TheVariants.{Alive, Initializing}
 use Rattle.predict.specs.Step.{gone, slot_predicted, each_predicted, slots_kept, slots_after, predict_table, dropped}
 use Rattle.predict.proofs.Dropping.{kept_most}
-use Rattle.predict.proofs.Predicting.{predicted-length}
+use Rattle.predict.proofs.Predicting.{predicted_length}
 use Rattle.predict.proofs.StepLaws.{fair, listed, membership, listed_once, opened_stay, permanent_stay, global_stay, initializing_stay}
 use Rattle.matching_step.proofs.AccountLaws.{initializing_names}
 use Rattle.laws.proofs.Weights.{kept_lighter}
@@ -40,9 +40,9 @@ of_slots : (t : Table) (l : List Slot) → table_objects t ≡ objects_of l → 
 of_slots t l e = rw e (simp (keep-map, map-map))
 
 -- predicting renames nobody and marks nobody
-names-predicted : (c : TrackerConfig) (l : List Slot) → initializing_names (each_predicted c l) ≡ initializing_names l
+names_predicted : (c : TrackerConfig) (l : List Slot) → initializing_names (each_predicted c l) ≡ initializing_names l
 unfolding object_predicted life_predicted
-names-predicted c l = simp (keep-map, map-map)
+names_predicted c l = simp (keep-map, map-map)
 
 -- ---- the table
 
@@ -72,7 +72,7 @@ module _ (t : Table) (s : List Float) where
   objects_after =
       let after = slots_after t s in
       take_at (objects_of after) (drop (length after) t.records) (length (slots_kept t s))
-      (objects_length after ∙ predicted-length t.config (slots_kept t s))
+      (objects_length after ∙ predicted_length t.config (slots_kept t s))
 
   -- what is so of everyone, by IDs, initial period and mark, stays so
   pub everyone_stays : t.counts.records ≤ length t.records → (P : Who → Type 0) → Every (λ o. P (who o)) (table_objects t)
@@ -91,7 +91,7 @@ module _ (t : Table) (s : List Float) where
     unfolding predict_table
     ordered =
         record {
-          long = records-length (slots_after t s) t.records (omega (arith, predicted-length t.config (slots_kept t s), fewer, within o)) ∙ o.long;
+          long = records_length (slots_after t s) t.records (omega (arith, predicted_length t.config (slots_kept t s), fewer, within o)) ∙ o.long;
           fit = omega (arith, fewer, o.fit);
           apart = one_list;
         }
@@ -101,7 +101,7 @@ module _ (t : Table) (s : List Float) where
         let before = slots_objects (block_size t.config) t.records s t.counts.records (within o) in
         rw (
           of_slots (predict_table t s) (slots_after t s) objects_after,
-          names-predicted t.config (slots_kept t s),
+          names_predicted t.config (slots_kept t s),
           of_slots t (table_slots t s) (sym before),
         )
         (kept_lighter w (λ y. name_of y.object) (λ y. y.object.life.is_initializing) (λ y. not (gone t.config y.object)) (table_slots t s))

@@ -20,7 +20,7 @@ use Rattle.passes.specs.Checks.{Frame}
 use Rattle.predict.specs.Step.{predict_table}
 use Rattle.matching_step.specs.Step.{match_table, pair_of, pairs_of}
 use Rattle.matching_step.specs.Account.{hit_of, match_account, Given, given, given_to, shown_by}
-use Rattle.matching_step.proofs.AccountLaws.{table-shown}
+use Rattle.matching_step.proofs.AccountLaws.{table_shown}
 use Rattle.matching_step.proofs.PairLaws.{record_at, first_below, second_below, at_place}
 use Rattle.reid.specs.Step.{reid_table, active, active_ids}
 use Rattle.reid.proofs.StepLaws.{name_in, every_stays}
@@ -75,18 +75,18 @@ shown_on more = every_weaker (λ o m. Memᴰ.append_left more m)
 
 module _ (l : List Given) (t : Table) (s : List Float) (most : t.counts.records ≤ length t.records) (shown : ShownIn l t) where
   -- steps 1 and 3 change no ID
-  predict-shown : ShownIn l (predict_table t s)
-  predict-shown = everyone_stays t s most (λ v. Memᴰ (given (name_in v) v.origin.global_id) l) shown
+  predict_shown : ShownIn l (predict_table t s)
+  predict_shown = everyone_stays t s most (λ v. Memᴰ (given (name_in v) v.origin.global_id) l) shown
 
-  reid-shown : (ds : List Float) → ShownIn l (reid_table t s ds)
-  reid-shown ds = every_stays t s ds most (λ v. Memᴰ (given (name_in v) v.origin.global_id) l) shown
+  reid_shown : (ds : List Float) → ShownIn l (reid_table t s ds)
+  reid_shown ds = every_stays t s ds most (λ v. Memᴰ (given (name_in v) v.origin.global_id) l) shown
 
   -- step 2 adds those that it opens
-  match-shown : (n : ℕ) (f : Frame) → ShownIn (l ++ map given_to (match_account t s n f).opened) (match_table t s n f)
-  match-shown n f =
+  match_shown : (n : ℕ) (f : Frame) → ShownIn (l ++ map given_to (match_account t s n f).opened) (match_table t s n f)
+  match_shown n f =
       let new = map given_to (match_account t s n f).opened in
       every_unmap {P = λ g. Memᴰ g (l ++ new)} shown_by (table_objects (match_table t s n f))
-      (rw (table-shown t s n f most)
+      (rw (table_shown t s n f most)
       (every_append (every_map shown_by (shown_on new shown)) (every_weaker (λ g m. Memᴰ.append_right l m) (every_self new))))
 
   -- ---- pairs
@@ -109,8 +109,8 @@ module _ (l : List Given) (t : Table) (s : List Float) (most : t.counts.records 
 
 -- ---- the active list
 
-names-active : (l : List Given) (u : Table) → ShownIn l u → Every (Named l (table_names u)) (active_ids u.counts.records u.records)
-names-active l u shown =
+names_active : (l : List Given) (u : Table) → ShownIn l u → Every (Named l (table_names u)) (active_ids u.counts.records u.records)
+names_active l u shown =
     every_map (λ o. o.origin.global_id)
     (every_keep active
     (every_weaker (λ o both. record { name = name_of o; is_given = both.0; is_there = both.1 }) (every_and shown (self_counted name_of (table_objects u)))))
@@ -120,16 +120,16 @@ names-active l u shown =
 telling_did : (l : List Given) (call : Call) (w : World) → w.table.counts.records ≤ length w.table.records → ShownIn l w.table
     → refusal_of call w ≡ 0 → Telling l (did call w (calling.done call w)) (calling.done call w).table
 telling_did l predict w most shown accepted =
-    record { table = shown_on [] (predict-shown l w.table w.storage most shown); pairs = done; active = none }
+    record { table = shown_on [] (predict_shown l w.table w.storage most shown); pairs = done; active = none }
 telling_did l (match n f places) w most shown accepted =
     record {
-      table = match-shown l w.table w.storage most shown n f;
+      table = match_shown l w.table w.storage most shown n f;
       pairs = rw accepted (tells_pairs l w.table w.storage most shown n f);
       active = none;
     }
 telling_did l (reid ds places) w most shown accepted =
-    let after = shown_on [] (reid-shown l w.table w.storage most shown ds) in
-    record { table = after; pairs = done; active = rw accepted (names-active (l ++ []) (reid_table w.table w.storage ds) after) }
+    let after = shown_on [] (reid_shown l w.table w.storage most shown ds) in
+    record { table = after; pairs = done; active = rw accepted (names_active (l ++ []) (reid_table w.table w.storage ds) after) }
 telling_did l total w most shown accepted = record { table = shown_on [] shown; pairs = done; active = none }
 telling_did l current w most shown accepted = record { table = shown_on [] shown; pairs = done; active = none }
 

@@ -16,7 +16,7 @@ use Rattle.laws.proofs.Weights.{run_once}
 use Rattle.parts.specs.declared.TrackerConfig.{TrackerConfig}
 use Rattle.table.specs.declared.Table.{Table}
 use Rattle.table.specs.Making.{made}
-use Rattle.table.proofs.MakingLaws.{accepted-fresh}
+use Rattle.table.proofs.MakingLaws.{accepted_fresh}
 use Rattle.pairs.specs.declared.Pair.{Pair}
 use Rattle.matching_step.specs.Account.{Given, given, given_to}
 use Rattle.ledger.specs.History.{Call, Entry, Day, goes_on, fresh, day_of}
@@ -64,15 +64,15 @@ module _ {l : List Entry} {t u : Table} {e : Entry} (seen : Seen l t) (tells : T
 
 given_counted : {name id : ℕ} {l : List Given} → Memᴰ (given name id) l → 0 < times id (globals l)
 unfolding times
-given_counted {id = id} (Memᴰ.head e) = rw (eq-eqb _ id (ap (λ (g : Given). g.global_id_of) (sym e))) (omega arith)
+given_counted {id = id} (Memᴰ.head e) = rw (eq-eqb _ id (ap (λ (g : Given). g.global_id) (sym e))) (omega arith)
 given_counted (Memᴰ.tail m) = omega (arith, given_counted m)
 
 module _ {l : List Entry} {t : Table} (c : Counted l t) where
   run : Run 1 (globals (given_in l)) t.counts.global
   run = simp map-map c.globals_run
 
-  names-one : {among : List ℕ} (id : ℕ) → Named (given_in l) among id → NamesOne (given_in l) among id
-  names-one id n =
+  names_one : {among : List ℕ} (id : ℕ) → Named (given_in l) among id → NamesOne (given_in l) among id
+  names_one id n =
       record { name = n.name; is_given = n.is_given; no_other = omega (arith, given_counted n.is_given, run_once run id); is_there = n.is_there }
 
   -- a pair's ID: of a record that was hit, so that it stood in the table
@@ -86,7 +86,7 @@ module _ {l : List Entry} {t : Table} (c : Counted l t) where
       go : {ps : List Pair} {m : List Struck} → Each (Tells (given_in l)) ps m → Every (λ s. 0 < times s.hit.name e.before) m
           → Every (λ p. NamesOne (given_in l) e.before p.global_id) ps
       go done none = none
-      go (also {x} {y} t r) (one there rest) = one (names-one x.global_id (record { name = y.hit.name; is_given = t.shown; is_there = there })) (go r rest)
+      go (also {x} {y} t r) (one there rest) = one (names_one x.global_id (record { name = y.hit.name; is_given = t.shown; is_there = there })) (go r rest)
 
 -- ---- a day
 
@@ -107,7 +107,7 @@ unfolding gather
 fresh_kept c s made-well =
     record {
       reached = reached_fresh c (length s) made-well;
-      seen = record { table = rw (accepted-fresh c (length s) made-well) none; pairs = none; active = none };
+      seen = record { table = rw (accepted_fresh c (length s) made-well) none; pairs = none; active = none };
     }
 
 -- from any accepted making, over any list of calls with any inputs
@@ -121,5 +121,5 @@ shown c s made-well calls =
       table = k.table;
       pairs = k.pairs;
       paired = every_weaker (λ e both. paired n e both.0 both.1) (every_and k.pairs n.hit);
-      active = every_weaker (λ e a. every_weaker (names-one n) a) k.active;
+      active = every_weaker (λ e a. every_weaker (names_one n) a) k.active;
     }

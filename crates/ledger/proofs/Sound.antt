@@ -19,7 +19,7 @@ use Rattle.table.specs.Making.{settled, made}
 use Rattle.table.specs.Slots.{Slot, objects_of, records_back, table_slots}
 use Rattle.table.specs.Wholeness.{settings_whole, counts_whole, record_whole, records_whole, names_below, lists_whole, whole_table}
 use Rattle.table.proofs.Facts.{SettingsFacts, settings_facts, settings_whole_lem, CountsFacts}
-use Rattle.table.proofs.MakingLaws.{accepted, accepted-fresh}
+use Rattle.table.proofs.MakingLaws.{accepted, accepted_fresh}
 use Rattle.table.proofs.SlotLaws.{objects_length, slots_objects}
 use Rattle.ledger.proofs.SoundTests.{◌also◌, between_whole}
 use Rattle.ledger.proofs.SoundRecord.{SoundRecord, sound_record_whole}
@@ -61,11 +61,11 @@ module _ {t : Table} (sound : Sound t) where
 
 pub sound_fresh : (c : TrackerConfig) (floats : ℕ) → (made c floats).refusal ≡ 0 → Sound (made c floats).table
 unfolding made lists_whole names_below
-sound_fresh c floats none-due =
-    let a = accepted (settled c) floats none-due in
-    rw (accepted-fresh c floats none-due)
+sound_fresh c floats none_due =
+    let a = accepted (settled c) floats none_due in
+    rw (accepted_fresh c floats none_due)
     (record {
-      settings = rw (a.in-range, a.delay_from, a.delay_below);
+      settings = rw (a.in_range, a.delay_from, a.delay_below);
       long = refl;
       counts =
           record { records = omega arith; frames = omega arith; opened = omega arith; permanent = (omega arith, omega arith); global = refl; initializing = refl };

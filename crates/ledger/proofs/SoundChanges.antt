@@ -22,7 +22,7 @@ use Rattle.parts.specs.declared.TrackerConfig.{TrackerConfig}
 use Rattle.parts.specs.Life.{raised, promotes, promoted, raised_only, life_predicted, life_hit, life_opened}
 use Rattle.parts.specs.Past.{pushed}
 use Rattle.parts.specs.Ranges.{PointsInRange}
-use Rattle.parts.proofs.PastLaws.{length-pushed, history-after}
+use Rattle.parts.proofs.PastLaws.{length-pushed, history_after}
 use Rattle.parts.proofs.PointLaws as points
 use Rattle.tracked_object.specs.Object.{Detection, object_predicted, object_hit, object_opened, object_merged, History, takes, added, conditionally_added, mark_of, entry_of, history_merged}
 use Rattle.tracked_object.proofs.MergeLaws.{some_of}
@@ -30,22 +30,22 @@ use Rattle.table.specs.Ranges.{reid_between, delay_negative}
 use Rattle.table.proofs.Chain.{parts}
 use Rattle.table.proofs.Facts.{SettingsFacts}
 use Rattle.predict.specs.Step.{gone}
-use Rattle.ledger.proofs.SoundCounters.{AtMost, most_more, above, fallen_most, raised_least, smaller-most, least_more, counters-raised, counters-cleared, counters-predicted}
+use Rattle.ledger.proofs.SoundCounters.{AtMost, most_more, above, fallen_most, raised_least, smaller_most, least_more, counters_raised, counters_cleared, counters_predicted}
 use Rattle.ledger.proofs.SoundRecord.{Aged, SoundLife, SoundMarks, SoundRecord}
 
 -- ---- the history
 
-marks-pushed : (c : TrackerConfig) (frames count : ℕ) (e : PastDetection) (marks : List PastDetection) → c.past_detections_length ≤ 8
+marks_pushed : (c : TrackerConfig) (frames count : ℕ) (e : PastDetection) (marks : List PastDetection) → c.past_detections_length ≤ 8
     → 0 < c.past_detections_length → Aged frames e → SoundMarks c frames count marks
     → SoundMarks c frames (min (count + 1) c.past_detections_length) (pushed c.past_detections_length 1 0 count (e ∷ []) marks)
-marks-pushed c frames count e marks few some new old =
+marks_pushed c frames count e marks few some new old =
     let most = c.past_detections_length in
     let fits : 0 + most * 1 ≤ length marks = omega (arith, old.eight) in
     record {
       counted = omega arith;
       eight = length-pushed most 1 0 count marks some old.counted fits (e ∷ []) refl ∙ old.eight;
       aged =
-          rw (rw (mul-one (min (count + 1) most), mul-one count) at (history-after most 1 0 count marks some old.counted fits (e ∷ []) refl))
+          rw (rw (mul-one (min (count + 1) most), mul-one count) at (history_after most 1 0 count marks some old.counted fits (e ∷ []) refl))
           (every_drop ((count + 1 - min (count + 1) most) * 1) (every_append old.aged (one new none)));
     }
 
@@ -67,8 +67,8 @@ sound_opened c frames d period global_id initializing_id next few some most =
 module _ (period : ℕ) (maximum delay : ℤ) (reid_max : ReidCounter) (next frames : ℕ) (l : Life)
     (from : le_z (pos 0) maximum ≡ true) (most : le_z maximum (pos 10000) ≡ true) (delayed : lt_z delay (pos 0) ≡ false)
     (old : SoundLife reid_max frames l) where
-  raised-most : AtMost 10000 (raised period maximum l)
-  raised-most = smaller-most 10000 (l.hit_counter +ℤ pos (2 * period)) maximum most
+  raised_most : AtMost 10000 (raised period maximum l)
+  raised_most = smaller_most 10000 (l.hit_counter +ℤ pos (2 * period)) maximum most
 
   either : (b : Bool) → promotes period maximum delay l ≡ b
       → SoundLife reid_max frames (cond b (promoted (raised period maximum l) reid_max next l) (raised_only (raised period maximum l) l))
@@ -76,30 +76,30 @@ module _ (period : ℕ) (maximum delay : ℤ) (reid_max : ReidCounter) (next fra
       let high = (parts l.is_initializing (lt_z delay (raised period maximum l) ∷ []) e).1 in
       record {
         age = old.age;
-        most = raised-most;
+        most = raised_most;
         counters =
-            counters-cleared reid_max l.reid_hit_counter l.hit_counter (raised period maximum l)
+            counters_cleared reid_max l.reid_hit_counter l.hit_counter (raised period maximum l)
             (least_more (raised period maximum l) (omega arith) (above delay (raised period maximum l) delayed high)) old.counters;
       }
   either false e =
       record {
         age = old.age;
-        most = raised-most;
+        most = raised_most;
         counters =
-            counters-raised reid_max l.reid_hit_counter l.hit_counter (raised period maximum l)
+            counters_raised reid_max l.reid_hit_counter l.hit_counter (raised period maximum l)
             (λ n. raised_least n (2 * period) maximum l.hit_counter from) old.counters;
       }
 
-  life-hit : SoundLife reid_max frames (life_hit period maximum delay reid_max next l)
+  life_hit_lem : SoundLife reid_max frames (life_hit period maximum delay reid_max next l)
   unfolding life_hit
-  life-hit = either (promotes period maximum delay l) refl
+  life_hit_lem = either (promotes period maximum delay l) refl
 
 -- the detection joins the history without an age, if there is one
-marks-hit : (c : TrackerConfig) (frames count : ℕ) (e : PastDetection) (marks : List PastDetection) (b : Bool) → ltb 0 c.past_detections_length ≡ b
+marks_hit_lem : (c : TrackerConfig) (frames count : ℕ) (e : PastDetection) (marks : List PastDetection) (b : Bool) → ltb 0 c.past_detections_length ≡ b
     → c.past_detections_length ≤ 8 → Aged frames e → SoundMarks c frames count marks
     → SoundMarks c frames (min (count + 1) c.past_detections_length) (cond b (pushed c.past_detections_length 1 0 count (e ∷ []) marks) marks)
-marks-hit c frames count e marks true h few new old = marks-pushed c frames count e marks few (ltb-true 0 _ h) new old
-marks-hit c frames count e marks false h few new old =
+marks_hit_lem c frames count e marks true h few new old = marks_pushed c frames count e marks few (ltb-true 0 _ h) new old
+marks_hit_lem c frames count e marks false h few new old =
     let same : min (count + 1) c.past_detections_length ≡ count = omega (arith, ltb-false 0 c.past_detections_length h, old.counted) in
     rw same old
 
@@ -110,27 +110,27 @@ unfolding object_hit
 sound_hit c frames d period distance next o facts from delayed old =
     record {
       life =
-          life-hit period c.hit_counter_max c.initialization_delay c.reid_hit_counter_max next frames o.life
+          life_hit_lem period c.hit_counter_max c.initialization_delay c.reid_hit_counter_max next frames o.life
           from facts.maximum delayed old.life;
       period = old.period;
       points =
-          points.hit_in_range c.points d.has_scores_at c.detection_threshold d.scores period c.pointwise_hit_counter_max o.point_hit_counter
+          points.hit_in_range c.points d.has_scores c.detection_threshold d.scores period c.pointwise_hit_counter_max o.point_hit_counter
           facts.pointwise c.points old.points;
       marks =
-          marks-hit c frames o.past_count (record { age = negsuc 0; has_scores = d.has_scores_at }) o.past
+          marks_hit_lem c frames o.past_count (record { age = negsuc 0; has_scores = d.has_scores }) o.past
           (ltb 0 c.past_detections_length) refl facts.history (omega arith, tt) old.marks;
     }
 
 -- ---- merged
 
 module _ (c : TrackerConfig) (few : c.past_detections_length ≤ 8) (frames age : ℕ) (young : age ≤ frames) where
-  marks-added : (has : Bool) (entry : List Float) (h : History) → SoundMarks c frames h.count h.marks
+  marks_added : (has : Bool) (entry : List Float) (h : History) → SoundMarks c frames h.count h.marks
       → SoundMarks c frames (conditionally_added c age has entry h).count (conditionally_added c age has entry h).marks
   unfolding conditionally_added
-  marks-added has entry h old = go (takes c age h.marks h.count) refl
+  marks_added has entry h old = go (takes c age h.marks h.count) refl
     where
       go : (b : Bool) → takes c age h.marks h.count ≡ b → SoundMarks c frames (cond b (added c age has entry h) h).count (cond b (added c age has entry h) h).marks
-      go true e = marks-pushed c frames h.count (record { age = pos age; has_scores = has }) h.marks few (some_of _ _ e) (tt, young) old
+      go true e = marks_pushed c frames h.count (record { age = pos age; has_scores = has }) h.marks few (some_of _ _ e) (tt, young) old
       go false e = old
 
   marks_merged : (candidate : TrackedObject) (from : List Float) (h : History) → SoundMarks c frames h.count h.marks
@@ -138,7 +138,7 @@ module _ (c : TrackerConfig) (few : c.past_detections_length ≤ 8) (frames age 
   unfolding history_merged
   marks_merged candidate from h old =
       turns_hold (λ i g. conditionally_added c age (mark_of candidate i) (entry_of c from i) g) (λ g. SoundMarks c frames g.count g.marks)
-      candidate.past_count h (λ i g hi. marks-added (mark_of candidate i) (entry_of c from i) g) old
+      candidate.past_count h (λ i g hi. marks_added (mark_of candidate i) (entry_of c from i) g) old
 
 -- of the candidate only the point counters matter
 pub sound_merged : (c : TrackerConfig) (frames : ℕ) (candidate : TrackedObject) (from : List Float) (o : TrackedObject) (l : List Float)
@@ -164,7 +164,7 @@ sound_predicted c frames o range stays old =
           record {
             age = omega (arith, old.life.age);
             most = fallen_most 10000 o.life.hit_counter old.life.most;
-            counters = counters-predicted c.reid_hit_counter_max o range stays old.life.counters;
+            counters = counters_predicted c.reid_hit_counter_max o range stays old.life.counters;
           };
       period = old.period;
       points = points.fallen_in_range c.points o.point_hit_counter c.points old.points;

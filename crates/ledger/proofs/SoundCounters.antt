@@ -40,9 +40,9 @@ pub between_is : (low high : ℕ) (z : ℤ) → AtLeast (suc low) z → AtMost h
 between_is low high (pos a) least most = le-leb a high most
 between_is low high (negsuc a) least most = rw (le-leb a low (omega arith))
 
-not-below : (z : ℤ) → lt_z z (pos 0) ≡ false → AtLeast 0 z
-not-below (pos a) h = tt
-not-below (negsuc a) h = absurd (true≢false h)
+not_below : (z : ℤ) → lt_z z (pos 0) ≡ false → AtLeast 0 z
+not_below (pos a) h = tt
+not_below (negsuc a) h = absurd (true≢false h)
 
 over_zero : (z : ℤ) → le_z z (pos 0) ≡ false → AtLeast 0 z
 over_zero (pos a) h = tt
@@ -107,8 +107,8 @@ raised_least n rise maximum z from h = go (lt_z (z +ℤ pos rise) maximum)
     go true = sum_least n rise z h
     go false = from_zero n maximum from
 
-pub smaller-most : (n : ℕ) (x maximum : ℤ) → le_z maximum (pos n) ≡ true → AtMost n (smaller_of x maximum)
-smaller-most n x maximum most = go (lt_z x maximum) refl
+pub smaller_most : (n : ℕ) (x maximum : ℤ) → le_z maximum (pos n) ≡ true → AtMost n (smaller_of x maximum)
+smaller_most n x maximum most = go (lt_z x maximum) refl
   where
     go : (b : Bool) → lt_z x maximum ≡ b → AtMost n (cond b x maximum)
     go true h = under n x maximum h (no_more n maximum most)
@@ -135,16 +135,16 @@ falling_raised r (negsuc zero) h k up f = up (r + 3) f
 falling_raised r (negsuc (suc a)) h k up f = f
 
 -- a hit counter that is bounded below as another one was
-pub counters-raised : (maximum c : ReidCounter) (h k : ℤ) → ((n : ℕ) → AtLeast n h → AtLeast n k) → Counters maximum c h → Counters maximum c k
-counters-raised maximum Absent h k up f = up 1 f
-counters-raised Absent (Present v) h k up f = f
-counters-raised (Present (pos r)) (Present v) h k up f = falling_raised r v h k up f
-counters-raised (Present (negsuc r)) (Present v) h k up f = f
+pub counters_raised : (maximum c : ReidCounter) (h k : ℤ) → ((n : ℕ) → AtLeast n h → AtLeast n k) → Counters maximum c h → Counters maximum c k
+counters_raised maximum Absent h k up f = up 1 f
+counters_raised Absent (Present v) h k up f = f
+counters_raised (Present (pos r)) (Present v) h k up f = falling_raised r v h k up f
+counters_raised (Present (negsuc r)) (Present v) h k up f = f
 
-pub counters-cleared : (maximum c : ReidCounter) (h k : ℤ) → AtLeast 1 k → Counters maximum c h → Counters maximum (reid_cleared c maximum) k
-counters-cleared Absent Absent h k least f = least
-counters-cleared Absent (Present v) h k least f = f
-counters-cleared (Present m) c h k least f = least
+pub counters_cleared : (maximum c : ReidCounter) (h k : ℤ) → AtLeast 1 k → Counters maximum c h → Counters maximum (reid_cleared c maximum) k
+counters_cleared Absent Absent h k least f = least
+counters_cleared Absent (Present v) h k least f = f
+counters_cleared (Present m) c h k least f = least
 
 -- ---- predict
 
@@ -159,8 +159,8 @@ without : (c : ReidCounter) (h : ℤ) → lt_z h (pos 0) ≡ false → Counters 
 without Absent h stays f = go (le_z h (pos 0))
   where
     go : (b : Bool) → Counters Absent (cond b Absent Absent) (h -ℤ pos 1)
-    go true = fallen_least 0 h (not-below h stays)
-    go false = fallen_least 0 h (not-below h stays)
+    go true = fallen_least 0 h (not_below h stays)
+    go false = fallen_least 0 h (not_below h stays)
 without (Present v) h stays f = f
 
 -- an absent ReID counter starts at the maximum where the hit counter is at most 0
@@ -174,21 +174,21 @@ within r Absent h stays f = go (le_z h (pos 0)) refl
 within r (Present v) h stays f = falling_predicted r v h stays f
 
 -- a ReID maximum that is set is not negative, and at most 10,000
-reid-from : {A : Type 0} (r : ℕ) → reid_between (pos 0) (Present (negsuc r)) (pos 10000) ≡ true → A
+reid_from : {A : Type 0} (r : ℕ) → reid_between (pos 0) (Present (negsuc r)) (pos 10000) ≡ true → A
 unfolding reid_between
-reid-from r range = absurd (true≢false (sym range))
+reid_from r range = absurd (true≢false (sym range))
 
-reid-most : (r : ℕ) → reid_between (pos 0) (Present (pos r)) (pos 10000) ≡ true → r ≤ 10000
+reid_most : (r : ℕ) → reid_between (pos 0) (Present (pos r)) (pos 10000) ≡ true → r ≤ 10000
 unfolding reid_between
-reid-most r range = leb-true r 10000 (parts (leb 0 r) (leb r 10000 ∷ []) range).1
+reid_most r range = leb-true r 10000 (parts (leb 0 r) (leb r 10000 ∷ []) range).1
 
 -- of a record that is not dropped
-pub counters-predicted : (maximum : ReidCounter) (o : TrackedObject) → reid_between (pos 0) maximum (pos 10000) ≡ true → gone_by maximum o ≡ false
+pub counters_predicted : (maximum : ReidCounter) (o : TrackedObject) → reid_between (pos 0) maximum (pos 10000) ≡ true → gone_by maximum o ≡ false
     → Counters maximum o.life.reid_hit_counter o.life.hit_counter
     → Counters maximum (reid_predicted o.life.reid_hit_counter o.life.hit_counter maximum) (o.life.hit_counter -ℤ pos 1)
-counters-predicted Absent o range stays f = without o.life.reid_hit_counter o.life.hit_counter stays f
-counters-predicted (Present (pos r)) o range stays f = within r o.life.reid_hit_counter o.life.hit_counter stays f
-counters-predicted (Present (negsuc r)) o range stays f = reid-from r range
+counters_predicted Absent o range stays f = without o.life.reid_hit_counter o.life.hit_counter stays f
+counters_predicted (Present (pos r)) o range stays f = within r o.life.reid_hit_counter o.life.hit_counter stays f
+counters_predicted (Present (negsuc r)) o range stays f = reid_from r range
 
 -- ---- whole
 
@@ -200,15 +200,15 @@ falling_within r (negsuc (suc a)) h most f = absurd f
 pub counters_low : (maximum c : ReidCounter) (h : ℤ) → reid_between (pos 0) maximum (pos 10000) ≡ true → Counters maximum c h → AtLeast 10003 h
 counters_low maximum Absent h range f = least_more h (omega arith) f
 counters_low Absent (Present v) h range f = absurd f
-counters_low (Present (pos r)) (Present v) h range f = (falling_within r v h (reid-most r range) f).0
+counters_low (Present (pos r)) (Present v) h range f = (falling_within r v h (reid_most r range) f).0
 counters_low (Present (negsuc r)) (Present v) h range f = absurd f
 
-pub counters-reid : (maximum c : ReidCounter) (h : ℤ) → reid_between (pos 0) maximum (pos 10000) ≡ true → Counters maximum c h
+pub counters_reid : (maximum c : ReidCounter) (h : ℤ) → reid_between (pos 0) maximum (pos 10000) ≡ true → Counters maximum c h
     → reid_between (negsuc 0) c (pos 10000) ≡ true
 unfolding reid_between
-counters-reid maximum Absent h range f = refl
-counters-reid Absent (Present v) h range f = absurd f
-counters-reid (Present (pos r)) (Present v) h range f =
-    let b = (falling_within r v h (reid-most r range) f).1 in
+counters_reid maximum Absent h range f = refl
+counters_reid Absent (Present v) h range f = absurd f
+counters_reid (Present (pos r)) (Present v) h range f =
+    let b = (falling_within r v h (reid_most r range) f).1 in
     between_is 0 10000 v b.0 b.1
-counters-reid (Present (negsuc r)) (Present v) h range f = absurd f
+counters_reid (Present (negsuc r)) (Present v) h range f = absurd f

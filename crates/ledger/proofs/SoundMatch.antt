@@ -16,21 +16,21 @@ use Rattle.laws.specs.Turns.{through}
 use Rattle.laws.proofs.Every.{every_append, every_set, every_map}
 use Rattle.laws.proofs.Through.{through_hold}
 use Rattle.matching.specs.Greedy.{Pick, rows_of, cols_of}
-use Rattle.matching.proofs.Taken.{taken_once, past_not-taken}
+use Rattle.matching.proofs.Taken.{taken_once, past_not_taken}
 use Rattle.parts.specs.declared.TrackerConfig.{TrackerConfig}
 use Rattle.table.specs.declared.Table.{Table}
 use Rattle.table.specs.Ranges.{delay_negative}
 use Rattle.table.specs.Slots.{no_slot}
 use Rattle.table.specs.Wholeness.{lists_whole}
 use Rattle.table.proofs.Chain.{parts}
-use Rattle.table.proofs.Due.{none-due}
+use Rattle.table.proofs.Due.{none_due}
 use Rattle.table.proofs.Facts.{SettingsFacts, settings_whole_lem}
-use Rattle.table.proofs.SlotLaws.{records-length}
+use Rattle.table.proofs.SlotLaws.{records_length}
 use Rattle.passes.specs.Checks.{Frame, match_checks}
 use Rattle.passes.specs.Passes.{numbers, old_ones}
-use Rattle.passes.proofs.PassLaws.{second_passed, old_once, old_below, old-few}
+use Rattle.passes.proofs.PassLaws.{second_passed, old_once, old_below, old_few}
 use Rattle.matching_step.specs.Step.{State, lent_detection, distance_of, hit_one, open_one, matrix_of, first_hits, second_hits, to_open, start, after_first, after_second, after_opening, match_table, match_refusal}
-use Rattle.matching_step.proofs.AccountLaws.{opened-length, slots-after, frames_stay, records-after, opened_after, initializing-after, global-after, permanent-after, objects_after}
+use Rattle.matching_step.proofs.AccountLaws.{opened_length, slots_after_lem, frames_stay, records_after, opened_after, initializing_after, global_after, permanent_after, objects_after}
 use Rattle.matching_step.proofs.Deciding.{few_hits}
 use Rattle.matching_step.proofs.Readiness.{ready}
 use Rattle.ledger.proofs.Sound.{Sound, SoundSlots, sound_settings, sound_fit, sound_slots}
@@ -49,7 +49,7 @@ checked : (t : Table) (s : List Float) (detections : ℕ) (f : Frame) (places : 
 checked t s detections f places none_is =
     let more = length (to_open t detections f) in
     let due =
-    none-due (match_checks t (length s) detections f places more)
+    none_due (match_checks t (length s) detections f places more)
     (omega arith, (omega arith, (omega arith, (omega arith, (omega arith, (omega arith, (omega arith, (omega arith, (omega arith, (omega arith, tt)))))))))) none_is in
     let period = parts (leb 1 f.period) (leb f.period 1000 ∷ []) (not-false _ due.1.1.1.0) in
     record {
@@ -105,7 +105,7 @@ module _ (t : Table) (s : List Float) (detections : ℕ) (f : Frame) (places : �
       let hit = cols_of (first_hits t detections f) in
       let once = (ready t s detections f places sound.long none_is).dead.1 in
       record {
-        few = le_trans (old-few t.counts.records alive dead hit once) (sound_fit sound);
+        few = le_trans (old_few t.counts.records alive dead hit once) (sound_fit sound);
         once = old_once t.counts.records alive dead hit once;
         inside = λ x past. old_below t.counts.records alive dead hit once x (le_trans h past);
       }
@@ -123,11 +123,11 @@ module _ (t : Table) (s : List Float) (detections : ℕ) (f : Frame) (places : �
               (ready t s detections f places sound.long none_is).decidable.few,
             );
         once = taken_once taken;
-        inside = λ x past. past_not-taken taken x (le_trans h past);
+        inside = λ x past. past_not_taken taken x (le_trans h past);
       }
 
   more : t.counts.records ≤ (match_table t s detections f).counts.records
-  more = omega (arith, records-after t s detections f)
+  more = omega (arith, records_after t s detections f)
 
   lists_sound : lists_whole (match_table t s detections f).counts.records (match_table t s detections f).lists ≡ true
   unfolding match_table
@@ -140,8 +140,8 @@ module _ (t : Table) (s : List Float) (detections : ℕ) (f : Frame) (places : �
   unfolding match_table
   long_after =
       let room = passed.room in
-      records-length (after_opening t s detections f).slots t.records
-      (omega (arith, slots-after t s detections f, opened-length t s detections f, room, (sound_settings sound).capacity.1, sound.long))
+      records_length (after_opening t s detections f).slots t.records
+      (omega (arith, slots_after_lem t s detections f, opened_length t s detections f, room, (sound_settings sound).capacity.1, sound.long))
       ∙ sound.long
 
   settings_stay : (match_table t s detections f).config ≡ t.config
@@ -151,19 +151,19 @@ module _ (t : Table) (s : List Float) (detections : ℕ) (f : Frame) (places : �
   pub sound_match : (match_table t s detections f).counts.permanent ≤ (match_table t s detections f).counts.opened + 1 → Sound (match_table t s detections f)
   sound_match issued =
       let n = sound.counts in
-      let many = opened-length t s detections f in
+      let many = opened_length t s detections f in
       let opened = opened_after t s detections f in
       record {
         settings = rw settings_stay sound.settings;
         long = long_after;
         counts =
             record {
-              records = rw settings_stay (omega (arith, records-after t s detections f, many, passed.room));
+              records = rw settings_stay (omega (arith, records_after t s detections f, many, passed.room));
               frames = rw (frames_stay t s detections f) n.frames;
               opened = omega (arith, opened, many, passed.numbers);
-              permanent = (omega (arith, permanent-after t s detections f, n.permanent.0), issued);
-              global = omega (arith, global-after t s detections f, opened, n.global);
-              initializing = omega (arith, initializing-after t s detections f, opened, n.initializing);
+              permanent = (omega (arith, permanent_after t s detections f, n.permanent.0), issued);
+              global = omega (arith, global_after t s detections f, opened, n.global);
+              initializing = omega (arith, initializing_after t s detections f, opened, n.initializing);
             };
         objects = rw (settings_stay, frames_stay t s detections f, objects_after t s detections f) (every_map (λ x. x.object) each_after);
         lists = lists_sound;

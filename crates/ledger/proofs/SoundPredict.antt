@@ -16,13 +16,13 @@ use Rattle.table.specs.Making.{zero_object}
 use Rattle.table.specs.Refusals.{first_due, predict_checks}
 use Rattle.table.specs.Slots.{objects_of}
 use Rattle.table.specs.Wholeness.{list_whole}
-use Rattle.table.proofs.Due.{none-due}
-use Rattle.table.proofs.SlotLaws.{records-length}
+use Rattle.table.proofs.Due.{none_due}
+use Rattle.table.proofs.SlotLaws.{records_length}
 use Rattle.predict.specs.declared.Sort.{Sort}
 use Rattle.predict.specs.declared.Sort.TheVariants.{Alive, Initializing, Dead}
 use Rattle.predict.specs.Step.{gone, belongs, places_of, slot_predicted, slots_kept, slots_after, predict_table}
 use Rattle.predict.proofs.Dropping.{kept_most}
-use Rattle.predict.proofs.Predicting.{predicted-length}
+use Rattle.predict.proofs.Predicting.{predicted_length}
 use Rattle.laws.proofs.Every.{every_map, every_kept}
 use Rattle.ledger.proofs.Sound.{Sound, SoundSlots, sound_settings, sound_fit, sound_most, sound_slots, sound_back}
 use Rattle.ledger.proofs.SoundLists.{Distinct, list_whole_lem, empty_whole, no_candidates_whole, lists_whole_lem}
@@ -41,8 +41,8 @@ module _ (t : Table) (s : List Float) (sound : Sound t) where
   kept_few : length (slots_kept t s) ≤ t.counts.records
   kept_few = kept_most t.config t.records s t.counts.records
 
-  each-predicted : SoundSlots t.config (t.counts.frames + 1) (slots_after t s)
-  each-predicted =
+  each_predicted_lem : SoundSlots t.config (t.counts.frames + 1) (slots_after t s)
+  each_predicted_lem =
       every_map (slot_predicted t.config)
       (every_kept (λ x. not (gone t.config x.object))
       (λ x old stays. sound_predicted t.config t.counts.frames x.object (sound_settings sound).reid (not-true _ stays) old)
@@ -55,12 +55,12 @@ module _ (t : Table) (s : List Float) (sound : Sound t) where
   pub sound_predict : first_due (predict_checks t (length s)) ≡ 0 → Sound (predict_table t s)
   unfolding predict_table
   sound_predict none =
-      let due = none-due (predict_checks t (length s)) (omega arith, (omega arith, (omega arith, (omega arith, tt)))) none in
+      let due = none_due (predict_checks t (length s)) (omega arith, (omega arith, (omega arith, (omega arith, tt)))) none in
       let n = sound.counts in
-      let same = predicted-length t.config (slots_kept t s) in
+      let same = predicted_length t.config (slots_kept t s) in
       record {
         settings = sound.settings;
-        long = records-length (slots_after t s) t.records (omega (arith, same, kept_few, sound_most sound)) ∙ sound.long;
+        long = records_length (slots_after t s) t.records (omega (arith, same, kept_few, sound_most sound)) ∙ sound.long;
         counts =
             record {
               records = le_trans kept_few n.records;
@@ -70,7 +70,7 @@ module _ (t : Table) (s : List Float) (sound : Sound t) where
               global = n.global;
               initializing = n.initializing;
             };
-        objects = sound_back (slots_after t s) t.records same each-predicted;
+        objects = sound_back (slots_after t s) t.records same each_predicted_lem;
         lists =
             lists_whole_lem (length (slots_kept t s)) _ (placed_whole Alive) (placed_whole Initializing) (placed_whole Dead)
             (empty_whole (length (slots_kept t s))) (no_candidates_whole (length (slots_kept t s)));

@@ -18,7 +18,7 @@ use Rattle.parts.specs.declared.TrackerConfig.{TrackerConfig}
 use Rattle.parts.specs.Ranges.{PointsInRange}
 use Rattle.table.specs.Ranges.{signed_between, reid_between}
 use Rattle.table.specs.Wholeness.{points_whole, ages_whole, record_whole}
-use Rattle.ledger.proofs.SoundCounters.{AtLeast, AtMost, Counters, most_more, between_is, least_more, counters_low, counters-reid}
+use Rattle.ledger.proofs.SoundCounters.{AtLeast, AtMost, Counters, most_more, between_is, least_more, counters_low, counters_reid}
 use Rattle.ledger.proofs.SoundTests.{◌also◌, between_whole}
 
 -- absent, or not negative and at most the frames begun
@@ -52,7 +52,7 @@ sound_record_whole c frames o range s =
     le-leb _ _ s.life.age
     also between_is 19999 20000 l.hit_counter (least_more l.hit_counter (omega arith) low) (most_more l.hit_counter (omega arith) s.life.most)
     also none_found (λ x. ltb 10000 x) (every_first c.points o.point_hit_counter 0 (λ i h. le-ltb 10000 _ (s.points i h)))
-    also counters-reid c.reid_hit_counter_max l.reid_hit_counter l.hit_counter range s.life.counters
+    also counters_reid c.reid_hit_counter_max l.reid_hit_counter l.hit_counter range s.life.counters
     also between_whole 1 o.origin.initial_period 1000 s.period.0 s.period.1
     also le-leb _ _ s.marks.counted
     also none_found (λ e. not (signed_between (negsuc 0) e.age (pos frames)))

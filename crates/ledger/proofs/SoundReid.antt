@@ -17,7 +17,7 @@ use Rattle.table.specs.declared.Table.{Table}
 use Rattle.table.specs.Making.{no_lists}
 use Rattle.table.specs.Slots.{Slot, no_slot, records_back, table_slots}
 use Rattle.table.proofs.Facts.{SettingsFacts}
-use Rattle.table.proofs.SlotLaws.{records-length}
+use Rattle.table.proofs.SlotLaws.{records_length}
 use Rattle.reid.specs.Step.{merge_one, merges, slots_merged, slots_staying, reid_table}
 use Rattle.reid.proofs.Composing.{merged_length}
 use Rattle.reid.proofs.StepLaws.{records_fall}
@@ -64,11 +64,11 @@ module _ (t : Table) (s ds : List Float) (sound : Sound t) where
   sound_reid =
       let n = sound.counts in
       let more = merged_length t s ds in
-      let long = records-length (slots_merged t s ds) t.records (omega (arith, more, sound_most sound)) ∙ sound.long in
+      let long = records_length (slots_merged t s ds) t.records (omega (arith, more, sound_most sound)) ∙ sound.long in
       let left = length (slots_staying t s ds) in
       record {
         settings = sound.settings;
-        long = records-length (slots_staying t s ds) (records_back (slots_merged t s ds) t.records) (omega (arith, long, staying_few, sound_fit sound)) ∙ long;
+        long = records_length (slots_staying t s ds) (records_back (slots_merged t s ds) t.records) (omega (arith, long, staying_few, sound_fit sound)) ∙ long;
         counts =
             record {
               records = le_trans staying_few n.records;

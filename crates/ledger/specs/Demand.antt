@@ -97,6 +97,6 @@ pub record Demand (d : Day) : Type 0 where
   pub numbers : issued_numbers (ever_issued d) ≡ up_from 1 (length (ever_issued d))
   -- to different records, which were opened
   pub holders : Once (issued_names (ever_issued d))
-  pub holders-opened : Among (issued_names (ever_issued d)) (ever_opened d)
+  pub holders_opened : Among (issued_names (ever_issued d)) (ever_opened d)
   -- and the total reported is n
   pub total : reported d ≡ record { refusal = 0; count = length (ever_issued d) }

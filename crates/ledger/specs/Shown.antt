@@ -17,7 +17,7 @@ abbrev pub ever_given : Day → List Given
 ever_given d = given_in (entries d)
 
 abbrev pub globals : List Given → List ℕ
-globals l = map (λ g. g.global_id_of) l
+globals l = map (λ g. g.global_id) l
 
 -- a global ID names one record: it was given to it, to no other, and the record is among these
 pub record NamesOne (l : List Given) (among : List ℕ) (id : ℕ) : Type 0 where

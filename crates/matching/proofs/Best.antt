@@ -19,9 +19,9 @@ beats_is m Nothing best x h = refl
 beats_is m (At a b) best x h = rw h
 
 -- a turn whose test holds, and one whose test fails
-pub look-taken : (m : Matrix) (ur uc : List Bool) (i j : ℕ) (p : Place) (t : Bool)
+pub look_taken : (m : Matrix) (ur uc : List Bool) (i j : ℕ) (p : Place) (t : Bool)
     → t ≡ (eligible m ur uc i j && smaller m.entry (m.entry i j) p) → t ≡ true → At i j ≡ look m ur uc i j p
-look-taken m ur uc i j p t e h = rw (← e, h)
+look_taken m ur uc i j p t e h = rw (← e, h)
 
 pub look_left : (m : Matrix) (ur uc : List Bool) (i j : ℕ) (p : Place) (t : Bool)
     → t ≡ (eligible m ur uc i j && smaller m.entry (m.entry i j) p) → t ≡ false → p ≡ look m ur uc i j p

@@ -11,7 +11,7 @@ use Rattle.matching.specs.declared.Place.{Place}
 use Rattle.matching.specs.declared.Place.TheVariants.{At, Nothing}
 use Rattle.matching.specs.Greedy.{Matrix, free, marked, eligible, next_pick, Pick, rows_of, cols_of, pick_then, greedy, picks}
 use Rattle.matching.proofs.NextPick.{Finite, FirstSmallest, Pickable, eligible_parts, next_is_pickable, next_is_first_smallest, next_is_none}
-use Rattle.matching.proofs.Taken.{free_below, free_below_at_most, falls, free-before, Taken, none, next, taken_at_most, taken_once, used_not-taken, past_not-taken}
+use Rattle.matching.proofs.Taken.{free_below, free_below_at_most, falls, free-before, Taken, none, next, taken_at_most, taken_once, used_not_taken, past_not_taken}
 
 -- l is what at most k turns pick, from these flags on: the laws are proved by going along it
 data Run (m : Matrix) : ℕ → List Bool → List Bool → List Pick → Type 0 where
@@ -44,7 +44,7 @@ module _ {m : Matrix} where
   run_taken (pick {ur = ur} {uc = uc} e r) =
       let f = next_is_pickable m ur uc e in
       let (rows, cols) = run_taken r in
-      (next f.row_in_range f.row-free rows, next f.col_in_range f.col-free cols)
+      (next f.row_in_range f.row_free rows, next f.col_in_range f.col_free cols)
 
   -- each pick uses a free row up, so that as many turns as there are free rows suffice to leave none
   run_ends : {k : ℕ} {ur uc : List Bool} {l : List Pick} → Run m k ur uc l → free_below m.rows ur ≤ k
@@ -55,7 +55,7 @@ module _ {m : Matrix} where
   run_ends (no_place {ur = ur} {uc = uc} e) few = next_is_none m ur uc e
   run_ends (pick {ur = ur} {uc = uc} {p = p} e r) few =
       let f = next_is_pickable m ur uc e in
-      run_ends r (omega (arith, falls m.rows ur p.row f.row_in_range f.row-free))
+      run_ends r (omega (arith, falls m.rows ur p.row f.row_in_range f.row_free))
 
 module _ (m : Matrix) (ur uc : List Bool) where
   abbrev run : Run m m.rows ur uc (picks m ur uc)
@@ -65,9 +65,9 @@ module _ (m : Matrix) (ur uc : List Bool) where
       → next_pick m (marked (rows_of before) ur) (marked (cols_of before) uc) ≡ At p.row p.col
   each_next before p after e = run_next ur uc before p after (rw e at run)
 
-  pub each-first_smallest : Finite m → (before : List Pick) (p : Pick) (after : List Pick) → picks m ur uc ≡ before ++ (p ∷ after)
+  pub each_first_smallest : Finite m → (before : List Pick) (p : Pick) (after : List Pick) → picks m ur uc ≡ before ++ (p ∷ after)
       → FirstSmallest m (marked (rows_of before) ur) (marked (cols_of before) uc) p.row p.col
-  each-first_smallest F before p after e =
+  each_first_smallest F before p after e =
       next_is_first_smallest m (marked (rows_of before) ur) (marked (cols_of before) uc) F (each_next before p after e)
 
   -- it was pickable at entry too
@@ -78,40 +78,40 @@ module _ (m : Matrix) (ur uc : List Bool) where
         row_in_range = f.row_in_range;
         col_in_range = f.col_in_range;
         counted = f.counted;
-        row-free = free-before (rows_of before) ur p.row f.row-free;
-        col-free = free-before (cols_of before) uc p.col f.col-free;
+        row_free = free-before (rows_of before) ur p.row f.row_free;
+        col_free = free-before (cols_of before) uc p.col f.col_free;
       }
 
   -- the rows, and the columns, of the picks: each was free when it was picked
   pub rows_taken : Taken m.rows ur (rows_of (picks m ur uc))
   rows_taken = (run_taken run).0
 
-  pub cols-taken : Taken m.cols uc (cols_of (picks m ur uc))
-  cols-taken = (run_taken run).1
+  pub cols_taken : Taken m.cols uc (cols_of (picks m ur uc))
+  cols_taken = (run_taken run).1
 
   pub no_row_twice : (x : ℕ) → times x (rows_of (picks m ur uc)) ≤ 1
   no_row_twice = taken_once rows_taken
 
   pub no_col_twice : (x : ℕ) → times x (cols_of (picks m ur uc)) ≤ 1
-  no_col_twice = taken_once cols-taken
+  no_col_twice = taken_once cols_taken
 
   pub used_row_unpicked : (x : ℕ) → free ur x ≡ false → times x (rows_of (picks m ur uc)) ≡ 0
-  used_row_unpicked = used_not-taken rows_taken
+  used_row_unpicked = used_not_taken rows_taken
 
   pub used_col_unpicked : (x : ℕ) → free uc x ≡ false → times x (cols_of (picks m ur uc)) ≡ 0
-  used_col_unpicked = used_not-taken cols-taken
+  used_col_unpicked = used_not_taken cols_taken
 
   pub row_past_unpicked : (x : ℕ) → m.rows ≤ x → times x (rows_of (picks m ur uc)) ≡ 0
-  row_past_unpicked = past_not-taken rows_taken
+  row_past_unpicked = past_not_taken rows_taken
 
   pub col_past_unpicked : (x : ℕ) → m.cols ≤ x → times x (cols_of (picks m ur uc)) ≡ 0
-  col_past_unpicked = past_not-taken cols-taken
+  col_past_unpicked = past_not_taken cols_taken
 
-  pub at_most-rows : length (picks m ur uc) ≤ m.rows
-  at_most-rows = rw length-map at (taken_at_most rows_taken)
+  pub at_most_rows : length (picks m ur uc) ≤ m.rows
+  at_most_rows = rw length-map at (taken_at_most rows_taken)
 
-  pub at_most-cols : length (picks m ur uc) ≤ m.cols
-  at_most-cols = rw length-map at (taken_at_most cols-taken)
+  pub at_most_cols : length (picks m ur uc) ≤ m.cols
+  at_most_cols = rw length-map at (taken_at_most cols_taken)
 
   pub none_left : (a b : ℕ) → a < m.rows → b < m.cols
       → eligible m (marked (rows_of (picks m ur uc)) ur) (marked (cols_of (picks m ur uc)) uc) a b ≡ false

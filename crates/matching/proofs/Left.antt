@@ -7,5 +7,5 @@ use Rattle.laws.specs.Lists.{holds}
 use Rattle.laws.proofs.Growing.{at_most}
 use Rattle.matching.specs.Unmatched.{unmatched}
 
-pub at_most-total : (total : ℕ) (matched : List ℕ) → length (unmatched total matched) ≤ total
-at_most-total total matched = at_most (λ i. not (holds i matched)) total
+pub at_most_total : (total : ℕ) (matched : List ℕ) → length (unmatched total matched) ≤ total
+at_most_total total matched = at_most (λ i. not (holds i matched)) total

@@ -8,5 +8,5 @@ use Rattle.laws.specs.Float64.{finite}
 use Rattle.matching.specs.Lent.{lent}
 use Rattle.matching.proofs.NextPick.{Finite}
 
-pub lent-finite : (l : List Float) (r c : ℕ) (threshold : Float) → Finite (lent l r c threshold)
-lent-finite l r c threshold i j e = ((and-eq-true_iff (finite (get_or l (i * c + j) nan)) (lt (get_or l (i * c + j) nan) threshold)).0 e).0
+pub lent_finite : (l : List Float) (r c : ℕ) (threshold : Float) → Finite (lent l r c threshold)
+lent_finite l r c threshold i j e = ((and-eq-true_iff (finite (get_or l (i * c + j) nan)) (lt (get_or l (i * c + j) nan) threshold)).0 e).0

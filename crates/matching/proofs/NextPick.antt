@@ -35,8 +35,8 @@ pub record Pickable (m : Matrix) (ur uc : List Bool) (i j : ℕ) : Type 0 where
   pub row_in_range : i < m.rows
   pub col_in_range : j < m.cols
   pub counted : m.counts i j ≡ true
-  pub row-free : free ur i ≡ true
-  pub col-free : free uc j ≡ true
+  pub row_free : free ur i ≡ true
+  pub col_free : free uc j ≡ true
 
 -- what `eligible` says
 pub eligible_parts : (m : Matrix) (ur uc : List Bool) (i j : ℕ) → eligible m ur uc i j ≡ true
@@ -168,7 +168,7 @@ module _ (m : Matrix) (ur uc : List Bool) where
   next_is_pickable {i} {j} e =
       let f = next_found (At i j) e in
       let (c, r, s) = eligible_parts m ur uc i j f.is_eligible in
-      record { row_in_range = f.row_in_range; col_in_range = f.col_in_range; counted = c; row-free = r; col-free = s }
+      record { row_in_range = f.row_in_range; col_in_range = f.col_in_range; counted = c; row_free = r; col_free = s }
 
   pub next_in_range : {i j : ℕ} → next_pick m ur uc ≡ At i j → (i < m.rows) × (j < m.cols)
   next_in_range e = let f = next_is_pickable e in (f.row_in_range, f.col_in_range)

@@ -40,17 +40,17 @@ picks_inside l rows cols i h = every_map (pick_at l) (every_below i (λ k lt. (r
 -- ---- picks in a struct are found again
 
 module _ (l : List Pick) where
-  pub picked-rows : take (picks_of l).count (picks_of l).rows ≡ rows_of l
-  picked-rows = take_at (rows_of l) (replicate (32 - length (rows_of l)) 0) (length l) (length-map l (λ p. p.row))
+  pub picked_rows : take (picks_of l).count (picks_of l).rows ≡ rows_of l
+  picked_rows = take_at (rows_of l) (replicate (32 - length (rows_of l)) 0) (length l) (length-map l (λ p. p.row))
 
-  pub picked-cols : take (picks_of l).count (picks_of l).cols ≡ cols_of l
-  picked-cols = take_at (cols_of l) (replicate (32 - length (cols_of l)) 0) (length l) (length-map l (λ p. p.col))
+  pub picked_cols : take (picks_of l).count (picks_of l).cols ≡ cols_of l
+  picked_cols = take_at (cols_of l) (replicate (32 - length (cols_of l)) 0) (length l) (length-map l (λ p. p.col))
 
-  in-front : (f : Pick → ℕ) (i : ℕ) (d : Pick) → f d ≡ 0 → i < length l → get_or (padded 32 (map f l)) i 0 ≡ f (get_or l i d)
-  in-front f i d e h = filled_at 32 0 (map f l) i 0 (omega (arith, length-map l f)) ∙ rw e at (get_or-map f l i d)
+  in_front : (f : Pick → ℕ) (i : ℕ) (d : Pick) → f d ≡ 0 → i < length l → get_or (padded 32 (map f l)) i 0 ≡ f (get_or l i d)
+  in_front f i d e h = filled_at 32 0 (map f l) i 0 (omega (arith, length-map l f)) ∙ rw e at (get_or-map f l i d)
 
   pub picked_of : picked (picks_of l) ≡ l
   picked_of =
       let d : Pick = record { row = 0; col = 0 } in
-      by_elements (pick_at (picks_of l)) l d (λ i h. rw (in-front (λ p. p.row) i d refl h, in-front (λ p. p.col) i d refl h)) (length l) (omega arith)
+      by_elements (pick_at (picks_of l)) l d (λ i h. rw (in_front (λ p. p.row) i d refl h, in_front (λ p. p.col) i d refl h)) (length l) (omega arith)
       ∙ take-length l

@@ -14,7 +14,7 @@ use lib.ListN.{length, set}
 use lib.Seq.{get_or-set_other}
 use Rattle.laws.specs.Every.{Every}
 use Rattle.laws.specs.Lists.{times}
-use Rattle.laws.proofs.Counting.{bit_at_most-one}
+use Rattle.laws.proofs.Counting.{bit_at_most_one}
 use Rattle.laws.specs.Turns.{through}
 use Rattle.matching.specs.Greedy.{free, marked}
 
@@ -36,7 +36,7 @@ free_below (suc n) u = cond (free u n) 1 0 + free_below n u
 pub free_below_at_most : (n : ℕ) (u : List Bool) → free_below n u ≤ n
 unfolding free_below
 free_below_at_most zero u = zero-le
-free_below_at_most (suc n) u = omega (arith, bit_at_most-one (free u n), free_below_at_most n u)
+free_below_at_most (suc n) u = omega (arith, bit_at_most_one (free u n), free_below_at_most n u)
 
 -- one set past the first n changes nothing
 beyond : (n : ℕ) (u : List Bool) (i : ℕ) → n ≤ i → free_below n (set u i true) ≡ free_below n u
@@ -82,30 +82,30 @@ module _ {n : ℕ} where
   taken_at_most {u} t = omega (arith, free_below_at_most n u, taken_falls t)
 
   -- a list taken behind another
-  pub taken-append : {u : List Bool} {l m : List ℕ} → Taken n u l → Taken n (marked l u) m → Taken n u (l ++ m)
+  pub taken_append : {u : List Bool} {l m : List ℕ} → Taken n u l → Taken n (marked l u) m → Taken n u (l ++ m)
   unfolding through
-  taken-append none t = t
-  taken-append (next h f r) t = next h f (taken-append r t)
+  taken_append none t = t
+  taken_append (next h f r) t = next h f (taken_append r t)
 
-  pub taken-below : {u : List Bool} {l : List ℕ} → Taken n u l → Every (λ i. i < n) l
-  taken-below none = Every.none
-  taken-below (next h f t) = Every.one h (taken-below t)
+  pub taken_below : {u : List Bool} {l : List ℕ} → Taken n u l → Every (λ i. i < n) l
+  taken_below none = Every.none
+  taken_below (next h f t) = Every.one h (taken_below t)
 
   -- only a number below n that was free at the start is taken, and once at most
-  pub taken-times : {u : List Bool} {l : List ℕ} → Taken n u l → (x : ℕ) → times x l ≤ cond (free u x && ltb x n) 1 0
+  pub taken_times : {u : List Bool} {l : List ℕ} → Taken n u l → (x : ℕ) → times x l ≤ cond (free u x && ltb x n) 1 0
   unfolding times
-  taken-times none x = zero-le
-  taken-times (next {u} {i} {l} h f t) x = go (eqb i x) refl (taken-times t x)
+  taken_times none x = zero-le
+  taken_times (next {u} {i} {l} h f t) x = go (eqb i x) refl (taken_times t x)
     where
       go : (v : Bool) → eqb i x ≡ v → times x l ≤ cond (free (set u i true) x && ltb x n) 1 0 → cond v 1 0 + times x l ≤ cond (free u x && ltb x n) 1 0
       go true e r = let q : i ≡ x = eqb-true i x e in rw (← q, f, lt-ltb i n h) (omega (arith, rw (← q, used u i) at r))
       go false e r = omega (arith, rw (others_kept u i x (λ q. eqb-false i x e (sym q))) at r)
 
   pub taken_once : {u : List Bool} {l : List ℕ} → Taken n u l → (x : ℕ) → times x l ≤ 1
-  taken_once {u} t x = omega (arith, taken-times t x, bit_at_most-one (free u x && ltb x n))
+  taken_once {u} t x = omega (arith, taken_times t x, bit_at_most_one (free u x && ltb x n))
 
-  pub used_not-taken : {u : List Bool} {l : List ℕ} → Taken n u l → (x : ℕ) → free u x ≡ false → times x l ≡ 0
-  used_not-taken t x f = omega (arith, rw f at (taken-times t x))
+  pub used_not_taken : {u : List Bool} {l : List ℕ} → Taken n u l → (x : ℕ) → free u x ≡ false → times x l ≡ 0
+  used_not_taken t x f = omega (arith, rw f at (taken_times t x))
 
-  pub past_not-taken : {u : List Bool} {l : List ℕ} → Taken n u l → (x : ℕ) → n ≤ x → times x l ≡ 0
-  past_not-taken {u} t x h = omega (arith, rw (le-ltb x n h, and-false (free u x)) at (taken-times t x))
+  pub past_not_taken : {u : List Bool} {l : List ℕ} → Taken n u l → (x : ℕ) → n ≤ x → times x l ≡ 0
+  past_not_taken {u} t x h = omega (arith, rw (le-ltb x n h, and-false (free u x)) at (taken_times t x))

@@ -24,7 +24,7 @@ use Rattle.passes.specs.Checks.{Frame}
 use Rattle.matching_step.specs.Step.{State, lent_detection, distance_of, next_permanent, issuing, takes_id, hit_one, open_one, first_hits, second_hits, to_open, start, hit_all, open_all, after_first, after_second, after_opening, match_table}
 use Rattle.matching_step.specs.Account.{Opened, Issue, issue, opened_names, opened_globals, issued_numbers, issued_names, Given, given, given_to, shown_by, Borne, issued_by_hit, issued_by_hits, opened_by, issued_by_opening, in_opening, match_account}
 use Rattle.laws.proofs.Weighing.{weight-append, keep-map, load_snoc, load_set, Run, ended, run_one, run_append, run_up, run_end}
-use Rattle.laws.proofs.Through.{gathered-each, gathered_told}
+use Rattle.laws.proofs.Through.{gathered_each, gathered_told}
 use Rattle.matching_step.proofs.Bearing.{borne_on, borne_hit, borne_opening}
 
 -- ---- what is read off slots and accounts
@@ -197,21 +197,21 @@ module _ (t : Table) (s : List Float) (d : ℕ) (f : Frame) where
   pub opened_appended : names (after_opening t s d f).slots ≡ names (table_slots t s) ++ opened_names (match_account t s d f).opened
   opened_appended = simp (map-append, map-map) at (ap (map (λ g. g.name)) fair.shown_behind)
 
-  pub opened-names : opened_names (match_account t s d f).opened ≡ up_from t.counts.initializing (length (match_account t s d f).opened)
-  opened-names = rw length-map at (run_up fair.names_run)
+  pub opened_names_lem : opened_names (match_account t s d f).opened ≡ up_from t.counts.initializing (length (match_account t s d f).opened)
+  opened_names_lem = rw length-map at (run_up fair.names_run)
 
-  pub opened-globals : opened_globals (match_account t s d f).opened ≡ up_from t.counts.global (length (match_account t s d f).opened)
-  opened-globals = rw length-map at (run_up fair.globals_run)
+  pub opened_globals_lem : opened_globals (match_account t s d f).opened ≡ up_from t.counts.global (length (match_account t s d f).opened)
+  opened_globals_lem = rw length-map at (run_up fair.globals_run)
 
-  pub opened-detections : map (λ o. o.detection) (match_account t s d f).opened ≡ to_open t d f
+  pub opened_detections : map (λ o. o.detection) (match_account t s d f).opened ≡ to_open t d f
   unfolding match_account
-  opened-detections = gathered-each (open_one t.config f s) opened_by (λ o. o.detection) (λ x st. refl) (to_open t d f) (after_second t s d f)
+  opened_detections = gathered_each (open_one t.config f s) opened_by (λ o. o.detection) (λ x st. refl) (to_open t d f) (after_second t s d f)
 
-  pub opened-length : length (match_account t s d f).opened ≡ length (to_open t d f)
-  opened-length = rw length-map at (ap length opened-detections)
+  pub opened_length : length (match_account t s d f).opened ≡ length (to_open t d f)
+  opened_length = rw length-map at (ap length opened_detections)
 
-  pub slots-after : length (after_opening t s d f).slots ≡ t.counts.records + length (match_account t s d f).opened
-  slots-after = simp (length-map, length-append, slots_length) at (ap length opened_appended)
+  pub slots_after_lem : length (after_opening t s d f).slots ≡ t.counts.records + length (match_account t s d f).opened
+  slots_after_lem = simp (length-map, length-append, slots_length) at (ap length opened_appended)
 
   -- ---- the permanent IDs issued
 
@@ -233,25 +233,25 @@ module _ (t : Table) (s : List Float) (d : ℕ) (f : Frame) where
   unfolding match_table
   frames_stay = fair.frames
 
-  pub records-after : (match_table t s d f).counts.records ≡ t.counts.records + length (match_account t s d f).opened
+  pub records_after : (match_table t s d f).counts.records ≡ t.counts.records + length (match_account t s d f).opened
   unfolding match_table
-  records-after = fair.records
+  records_after = fair.records
 
   pub opened_after : (match_table t s d f).counts.opened ≡ t.counts.opened + length (match_account t s d f).opened
   unfolding match_table
   opened_after = fair.ever_opened_lem
 
-  pub initializing-after : (match_table t s d f).counts.initializing ≡ t.counts.initializing + length (match_account t s d f).opened
+  pub initializing_after : (match_table t s d f).counts.initializing ≡ t.counts.initializing + length (match_account t s d f).opened
   unfolding match_table
-  initializing-after = rw length-map at (run_end fair.names_run)
+  initializing_after = rw length-map at (run_end fair.names_run)
 
-  pub global-after : (match_table t s d f).counts.global ≡ t.counts.global + length (match_account t s d f).opened
+  pub global_after : (match_table t s d f).counts.global ≡ t.counts.global + length (match_account t s d f).opened
   unfolding match_table
-  global-after = rw length-map at (run_end fair.globals_run)
+  global_after = rw length-map at (run_end fair.globals_run)
 
-  pub permanent-after : (match_table t s d f).counts.permanent ≡ t.counts.permanent + length (match_account t s d f).issued
+  pub permanent_after : (match_table t s d f).counts.permanent ≡ t.counts.permanent + length (match_account t s d f).issued
   unfolding match_table
-  permanent-after = rw length-map at (run_end fair.numbers_run)
+  permanent_after = rw length-map at (run_end fair.numbers_run)
 
   -- ---- the table
 
@@ -259,19 +259,19 @@ module _ (t : Table) (s : List Float) (d : ℕ) (f : Frame) where
   unfolding match_table
   objects_after =
       let l = (after_opening t s d f).slots in
-      take_at (objects_of l) (drop (length l) t.records) (after_opening t s d f).counts.records (objects_length l ∙ slots-after ∙ sym fair.records)
+      take_at (objects_of l) (drop (length l) t.records) (after_opening t s d f).counts.records (objects_length l ∙ slots_after_lem ∙ sym fair.records)
 
   -- if the array holds as many records as are counted, the slots are those of its records
   module _ (most : t.counts.records ≤ length t.records) where
     objects_before : objects_of (table_slots t s) ≡ table_objects t
     objects_before = slots_objects (block_size t.config) t.records s t.counts.records most
 
-    pub table-names : table_names (match_table t s d f) ≡ table_names t ++ opened_names (match_account t s d f).opened
-    table-names = rw (objects_after, ← objects_before) (simp map-map opened_appended)
+    pub table_names_lem : table_names (match_table t s d f) ≡ table_names t ++ opened_names (match_account t s d f).opened
+    table_names_lem = rw (objects_after, ← objects_before) (simp map-map opened_appended)
 
     -- each record with the global ID that it shows
-    pub table-shown : map shown_by (table_objects (match_table t s d f)) ≡ map shown_by (table_objects t) ++ map given_to (match_account t s d f).opened
-    table-shown = rw (objects_after, ← objects_before) (simp map-map fair.shown_behind)
+    pub table_shown : map shown_by (table_objects (match_table t s d f)) ≡ map shown_by (table_objects t) ++ map given_to (match_account t s d f).opened
+    table_shown = rw (objects_after, ← objects_before) (simp map-map fair.shown_behind)
 
     pub table_moved : (w : ℕ → ℕ)
         → weight w (table_initializing (match_table t s d f)) + weight w (issued_names (match_account t s d f).issued)

@@ -8,12 +8,12 @@ use lib.ListN.{length}
 use Rattle.laws.specs.Every.{Every}
 use Rattle.laws.specs.Lists.{EachBelow}
 use Rattle.laws.specs.Turns.{through}
-use Rattle.laws.proofs.Every.{every_at, every_keep, every_below, each-padded}
-use Rattle.laws.proofs.Through.{through-keep}
+use Rattle.laws.proofs.Every.{every_at, every_keep, every_below, each_padded}
+use Rattle.laws.proofs.Through.{through_keep}
 use Rattle.matching.specs.Greedy.{Pick}
 use Rattle.matching.specs.Lent.{picks_of, picked}
 use Rattle.matching.specs.Unmatched.{numbers_of}
-use Rattle.matching.proofs.Picked.{Inside, picks_inside, picked-cols, picked_of}
+use Rattle.matching.proofs.Picked.{Inside, picks_inside, picked_cols, picked_of}
 use Rattle.parts.specs.declared.TrackedObject.{TrackedObject}
 use Rattle.parts.specs.Layout.{block_size}
 use Rattle.table.specs.declared.Counts.{Counts}
@@ -40,24 +40,24 @@ module _ (t : Table) (n : ℕ) (f : Frame) where
   unfolding first_hits
   first_rows = rows_inside (first_passed (matrix_of t n f) (numbers t.lists.alive))
 
-  pub first-cols : EachBelow t.counts.records (picks_of (first_hits t n f)).count (picks_of (first_hits t n f)).cols
+  pub first_cols : EachBelow t.counts.records (picks_of (first_hits t n f)).count (picks_of (first_hits t n f)).cols
   unfolding first_hits
-  first-cols = cols_inside (first_passed (matrix_of t n f) (numbers t.lists.alive))
+  first_cols = cols_inside (first_passed (matrix_of t n f) (numbers t.lists.alive))
 
-  pub second-rows : EachBelow n (picks_of (second_hits t n f)).count (picks_of (second_hits t n f)).rows
+  pub second_rows : EachBelow n (picks_of (second_hits t n f)).count (picks_of (second_hits t n f)).rows
   unfolding second_hits
-  second-rows = rows_inside (second_passed (matrix_of t n f) (numbers t.lists.initializing) _)
+  second_rows = rows_inside (second_passed (matrix_of t n f) (numbers t.lists.initializing) _)
 
-  pub second-cols : EachBelow t.counts.records (picks_of (second_hits t n f)).count (picks_of (second_hits t n f)).cols
+  pub second_cols : EachBelow t.counts.records (picks_of (second_hits t n f)).count (picks_of (second_hits t n f)).cols
   unfolding second_hits
-  second-cols = cols_inside (second_passed (matrix_of t n f) (numbers t.lists.initializing) _)
+  second_cols = cols_inside (second_passed (matrix_of t n f) (numbers t.lists.initializing) _)
 
   left_every : Every (λ i. i < n) (to_open t n f)
   unfolding to_open
   left_every = every_keep _ (every_keep _ (every_below n (λ i h. h)))
 
   pub left_below : EachBelow n (numbers_of (to_open t n f)).count (numbers_of (to_open t n f)).at
-  left_below = each-padded 64 (to_open t n f) refl left_every
+  left_below = each_padded 64 (to_open t n f) refl left_every
 
   listed : (l : List Pick) → EachBelow n (picks_of l).count (picks_of l).rows → EachBelow t.counts.records (picks_of l).count (picks_of l).cols
       → Every (Inside n t.counts.records) l
@@ -65,9 +65,9 @@ module _ (t : Table) (n : ℕ) (f : Frame) where
 
 -- ---- the step on a table that passed its checks
 
-module _ (t : Table) (s : List Float) (f : Frame) (ready : Ready t (length s) (length f.has_scores_at) f) where
+module _ (t : Table) (s : List Float) (f : Frame) (ready : Ready t (length s) (length f.has_scores) f) where
   abbrev n : ℕ
-  n = length f.has_scores_at
+  n = length f.has_scores
 
   abbrev hits : List Pick → State → State
   hits l st = through (hit_one t.config f t.counts.records) l st
@@ -78,37 +78,37 @@ module _ (t : Table) (s : List Float) (f : Frame) (ready : Ready t (length s) (l
 
   pub stands_after_first : Standing t.config t.counts.records (after_first t s n f)
   unfolding after_first
-  stands_after_first = stays (listed t n f (first_hits t n f) (first_rows t n f) (first-cols t n f)) (stands_first t.records s t.counts ready.holding refl)
+  stands_after_first = stays (listed t n f (first_hits t n f) (first_rows t n f) (first_cols t n f)) (stands_first t.records s t.counts ready.holding refl)
 
   pub stands_after_second : Standing t.config t.counts.records (after_second t s n f)
   unfolding after_second
-  stands_after_second = stays (listed t n f (second_hits t n f) (second-rows t n f) (second-cols t n f)) stands_after_first
+  stands_after_second = stays (listed t n f (second_hits t n f) (second_rows t n f) (second_cols t n f)) stands_after_first
 
   -- hits issue at most one permanent ID each, and count no opening
-  pub permanent-first : (after_first t s n f).counts.permanent ≤ t.counts.permanent + length (first_hits t n f)
+  pub permanent_first : (after_first t s n f).counts.permanent ≤ t.counts.permanent + length (first_hits t n f)
   unfolding after_first
-  permanent-first = hits_permanent t.config f t.counts.records (first_hits t n f) (start t s)
+  permanent_first = hits_permanent t.config f t.counts.records (first_hits t n f) (start t s)
 
-  pub permanent-second : (after_second t s n f).counts.permanent ≤ t.counts.permanent + n
+  pub permanent_second : (after_second t s n f).counts.permanent ≤ t.counts.permanent + n
   unfolding after_second
-  permanent-second =
-      omega (arith, hits_permanent t.config f t.counts.records (second_hits t n f) (after_first t s n f), permanent-first, few_hits t n f)
+  permanent_second =
+      omega (arith, hits_permanent t.config f t.counts.records (second_hits t n f) (after_first t s n f), permanent_first, few_hits t n f)
 
   unopened : (view : Counts → ℕ) → ((st : State) (p : Pick) → view (hit_one t.config f t.counts.records p st).counts ≡ view st.counts)
       → view (after_second t s n f).counts ≡ view t.counts
   unfolding after_second after_first
   unopened view kept =
-      through-keep (hit_one t.config f t.counts.records) (λ st. view st.counts) (λ p st. kept st p) (second_hits t n f) (after_first t s n f)
-      ∙ through-keep (hit_one t.config f t.counts.records) (λ st. view st.counts) (λ p st. kept st p) (first_hits t n f) (start t s)
+      through_keep (hit_one t.config f t.counts.records) (λ st. view st.counts) (λ p st. kept st p) (second_hits t n f) (after_first t s n f)
+      ∙ through_keep (hit_one t.config f t.counts.records) (λ st. view st.counts) (λ p st. kept st p) (first_hits t n f) (start t s)
 
-  pub opened-second : (after_second t s n f).counts.opened ≡ t.counts.opened
-  opened-second = unopened (λ m. m.opened) (λ st p. refl)
+  pub opened_second : (after_second t s n f).counts.opened ≡ t.counts.opened
+  opened_second = unopened (λ m. m.opened) (λ st p. refl)
 
-  pub global-second : (after_second t s n f).counts.global ≡ t.counts.global
-  global-second = unopened (λ m. m.global) (λ st p. refl)
+  pub global_second : (after_second t s n f).counts.global ≡ t.counts.global
+  global_second = unopened (λ m. m.global) (λ st p. refl)
 
-  pub initializing-second : (after_second t s n f).counts.initializing ≡ t.counts.initializing
-  initializing-second = unopened (λ m. m.initializing) (λ st p. refl)
+  pub initializing_second : (after_second t s n f).counts.initializing ≡ t.counts.initializing
+  initializing_second = unopened (λ m. m.initializing) (λ st p. refl)
 
   -- ---- each part put back
 
@@ -129,7 +129,7 @@ module _ (t : Table) (s : List Float) (f : Frame) (ready : Ready t (length s) (l
 
       -- an opening reads no distance
       pub put_third : Put t.config t.records s (after_second t s n f) rs m g → {r : Stepped} {h : List Float} →
-          let opens = through (open_one t.config (frame f.period f.points f.scores f.has_scores_at []) g) (numbers d.left) (found t.config rs g m) in
+          let opens = through (open_one t.config (frame f.period f.points f.scores f.has_scores []) g) (numbers d.left) (found t.config rs g m) in
           r ≡ stepped_of opens rs → h ≡ floats_back (block_size t.config) opens.slots g
           → Put t.config t.records s (after_opening t s n f) r.records r.counts h
       unfolding after_opening
@@ -150,4 +150,4 @@ module _ (t : Table) (s : List Float) (f : Frame) (ready : Ready t (length s) (l
           → ◌≡◌ {A = Table} (record { records = rs; config = t.config; counts = m; phase = Reid; lists = l }) (match_table t s n f)
       unfolding match_table
       table_is put lists =
-          rw (put.records, put.counts, lists, decided, picked-cols (first_hits t n f), picked-cols (second_hits t n f))
+          rw (put.records, put.counts, lists, decided, picked_cols (first_hits t n f), picked_cols (second_hits t n f))

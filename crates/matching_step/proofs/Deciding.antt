@@ -8,7 +8,7 @@ use Rattle.matching.specs.declared.Numbers.{Numbers}
 use Rattle.matching.specs.declared.Picks.{Picks}
 use Rattle.matching.specs.Lent.{picks_of}
 use Rattle.matching.specs.Unmatched.{numbers_of}
-use Rattle.matching.proofs.Picked.{picked-rows}
+use Rattle.matching.proofs.Picked.{picked_rows}
 use Rattle.table.specs.declared.Table.{Table}
 use Rattle.passes.specs.Checks.{Frame}
 use Rattle.passes.specs.Passes.{numbers, rows_picked, first_pass, second_pass, left_over}
@@ -36,11 +36,11 @@ module _ (t : Table) (n : ℕ) (f : Frame) where
     module _ {second : Picks} (two : second ≡ picks_of (second_pass (matrix_of t n f) (numbers t.lists.initializing) (rows_picked first))) where
       pub second_is : second ≡ picks_of (second_hits t n f)
       unfolding second_hits
-      second_is = two ∙ rw (first_is, picked-rows (first_hits t n f))
+      second_is = two ∙ rw (first_is, picked_rows (first_hits t n f))
 
       pub second-few : second.count ≤ n
       second-few = rw second_is (omega (arith, few_hits))
 
       pub decided : {left : Numbers} → left ≡ numbers_of (left_over n (rows_picked first) (rows_picked second)) → ◌≡◌ {A = Decided} (record { first = first; second = second; left = left }) (decided_of t n f)
       unfolding to_open
-      decided three = rw (three, first_is, second_is, picked-rows (first_hits t n f), picked-rows (second_hits t n f))
+      decided three = rw (three, first_is, second_is, picked_rows (first_hits t n f), picked_rows (second_hits t n f))

@@ -21,10 +21,10 @@ use Rattle.tracked_object.specs.Object.{changed_by_hit, block_hit}
 use Rattle.table.specs.declared.Counts.{Counts}
 use Rattle.table.specs.Making.{zero_object}
 use Rattle.table.proofs.Reading.{blank, read}
-use Rattle.table.proofs.SlotLaws.{block-fits, records-length, floats-length}
+use Rattle.table.proofs.SlotLaws.{block_fits, records_length, floats_length}
 use Rattle.passes.specs.Checks.{Frame}
 use Rattle.matching_step.specs.Step.{State, lent_detection, distance_of, issuing, hit_one, Fits, Holds}
-use Rattle.matching_step.proofs.Hitting.{Standing, stands_first, hits_stand, hits_permanent, in-range, object_held, put_hit}
+use Rattle.matching_step.proofs.Hitting.{Standing, stands_first, hits_stand, hits_permanent, in_range, object_held, put_hit}
 use Rattle.matching_step.proofs.PutBack.{found, Put, put_found}
 
 abbrev pub passed : TrackerConfig → Frame → Picks → Counts → List TrackedObject → List Float → ℕ → State
@@ -35,7 +35,7 @@ pub record Passing (c : TrackerConfig) (f : Frame) (l : Picks) (m : Counts) (rec
   pub fits : Fits c f
   pub holding : Holds c m.records records (length s)
   pub all : length records ≡ 64
-  pub rows : EachBelow (length f.has_scores_at) l.count l.rows
+  pub rows : EachBelow (length f.has_scores) l.count l.rows
   pub cols : EachBelow m.records l.count l.cols
 
 module _ {c : TrackerConfig} {f : Frame} {l : Picks} {m : Counts} {records : List TrackedObject} {s : List Float} (pass : Passing c f l m records s) where
@@ -49,8 +49,8 @@ module _ {c : TrackerConfig} {f : Frame} {l : Picks} {m : Counts} {records : Lis
   -- ---- at turn i
 
   module _ (i : ℕ) {rs : List TrackedObject} {g : List Float} {k : Counts} (put : Put c records s (passed c f l m records s i) rs k g) where
-    pub permanent-most : k.permanent ≤ m.permanent + i
-    permanent-most =
+    pub permanent_most : k.permanent ≤ m.permanent + i
+    permanent_most =
         rw put.counts
         (omega (arith, length-map (below i) (pick_at l), length-below i, hits_permanent c f m.records (first_picks l i) (found c records s m)))
 
@@ -61,10 +61,10 @@ module _ {c : TrackerConfig} {f : Frame} {l : Picks} {m : Counts} {records : Lis
 
     records_long : i ≤ l.count → length rs ≡ 64
     records_long h =
-        rw put.records (records-length (passed c f l m records s i).slots records (rw (stands h).long fewer) ∙ pass.all)
+        rw put.records (records_length (passed c f l m records s i).slots records (rw (stands h).long fewer) ∙ pass.all)
 
     pub floats_long : i ≤ l.count → length g ≡ length s
-    floats_long h = rw put.floats (floats-length (stands h).sized s (rw (stands h).long pass.holding.room))
+    floats_long h = rw put.floats (floats_length (stands h).sized s (rw (stands h).long pass.holding.room))
 
     -- ---- with a pick to come
 
@@ -76,10 +76,10 @@ module _ {c : TrackerConfig} {f : Frame} {l : Picks} {m : Counts} {records : Lis
       object_in_range =
           let st = stands (omega arith) in
           rw (read_here, object_held pass.fits pass.holding.from pass.holding.most (pick_at l i) st (pass.rows i h) (pass.cols i h) put)
-          (in-range pass.fits pass.holding.from pass.holding.most (pick_at l i) st (pass.rows i h) (pass.cols i h))
+          (in_range pass.fits pass.holding.from pass.holding.most (pick_at l i) st (pass.rows i h) (pass.cols i h))
 
       pub block_inside : get_or l.cols i 0 * block_size c + block_size c ≤ length g
-      block_inside = rw (floats_long (omega arith)) (le_trans (block-fits (block_size c) (get_or l.cols i 0) m.records (pass.cols i h)) pass.holding.room)
+      block_inside = rw (floats_long (omega arith)) (le_trans (block_fits (block_size c) (get_or l.cols i 0) m.records (pass.cols i h)) pass.holding.room)
 
       pub put_next : {r : Changed} {g' : List Float} {k' : Counts}
           → r ≡ changed_by_hit c (lent_detection c f (get_or l.rows i 0)) f.period (distance_of f m.records (pick_at l i)) k.permanent (get_or rs (get_or l.cols i 0) blank)

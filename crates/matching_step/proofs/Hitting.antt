@@ -12,7 +12,7 @@ use lib.Signed.{le_z}
 use Rattle.laws.specs.Every.{Every, none, one}
 use Rattle.laws.specs.Turns.{through}
 use Rattle.laws.proofs.Every.{every_at, every_set}
-use Rattle.laws.proofs.Through.{through-keep}
+use Rattle.laws.proofs.Through.{through_keep}
 use Rattle.matching.specs.Greedy.{Pick}
 use Rattle.matching.proofs.Picked.{Inside}
 use Rattle.parts.specs.declared.TrackerConfig.{TrackerConfig}
@@ -30,7 +30,7 @@ use Rattle.table.proofs.Ranged.{Ranged, ranged_slots}
 use Rattle.table.proofs.SlotLaws.{Sized, slots_length, slots_sized, records_at, records_swap, floats_at, floats_swap}
 use Rattle.passes.specs.Checks.{Frame}
 use Rattle.matching_step.specs.Step.{State, lent_detection, distance_of, next_permanent, issuing, takes_id, slot_hit, hit_one, Fits, Holds}
-use Rattle.matching_step.proofs.Lending.{lent_points, lent-scores}
+use Rattle.matching_step.proofs.Lending.{lent_points, lent_scores}
 use Rattle.matching_step.proofs.PutBack.{Put}
 
 -- ---- what is so at every turn
@@ -55,7 +55,7 @@ module _ {c : TrackerConfig} {f : Frame} (fits : Fits c f)
     (from : le_z (pos 0) c.hit_counter_max ≡ true) (most : le_z c.hit_counter_max (pos 10000) ≡ true) {n : ℕ} where
   -- ---- one hit
 
-  module _ (p : Pick) {st : State} (stands : Standing c n st) (row : p.row < length f.has_scores_at) (col : p.col < n) where
+  module _ (p : Pick) {st : State} (stands : Standing c n st) (row : p.row < length f.has_scores) (col : p.col < n) where
     abbrev hit_slot : Slot
     hit_slot = get_or st.slots p.col no_slot
 
@@ -65,13 +65,13 @@ module _ {c : TrackerConfig} {f : Frame} (fits : Fits c f)
     listed : p.col < length st.slots
     listed = rw stands.long col
 
-    pub in-range : ObjectInRange c hit_slot.object
-    in-range = every_at p.col no_slot stands.ranged listed
+    pub in_range : ObjectInRange c hit_slot.object
+    in_range = every_at p.col no_slot stands.ranged listed
 
     block_kept : length next.block ≡ block_size c
     block_kept =
         let whole = every_at p.col no_slot stands.sized listed in
-        length-hit c (lent_detection c f p.row) hit_slot.block (lent_points fits row) (lent-scores fits row) whole hit_slot.object.past_count in-range.history
+        length-hit c (lent_detection c f p.row) hit_slot.block (lent_points fits row) (lent_scores fits row) whole hit_slot.object.past_count in_range.history
         ∙ whole
 
     pub stands_hit : Standing c n (hit_one c f n p st)
@@ -107,14 +107,14 @@ module _ {c : TrackerConfig} {f : Frame} (fits : Fits c f)
 
   -- ---- a pass
 
-  pub hits_stand : {l : List Pick} {st : State} → Every (Inside (length f.has_scores_at) n) l → Standing c n st → Standing c n (through (hit_one c f n) l st)
+  pub hits_stand : {l : List Pick} {st : State} → Every (Inside (length f.has_scores) n) l → Standing c n st → Standing c n (through (hit_one c f n) l st)
   unfolding through
   hits_stand none stands = stands
   hits_stand (one {x = p} h rest) stands = hits_stand rest (stands_hit p stands h.0 h.1)
 
 -- no hit adds or drops a slot
 pub hits_length : (c : TrackerConfig) (f : Frame) (n : ℕ) (l : List Pick) (st : State) → length (through (hit_one c f n) l st).slots ≡ length st.slots
-hits_length c f n = through-keep (hit_one c f n) (λ st. length st.slots) (λ p st. length-set st.slots p.col _)
+hits_length c f n = through_keep (hit_one c f n) (λ st. length st.slots) (λ p st. length-set st.slots p.col _)
 
 -- a hit or an opening takes at most one permanent ID
 pub next_most : (took : Bool) (k : ℕ) → next_permanent took k ≤ k + 1

@@ -23,7 +23,7 @@ use Rattle.tracked_object.specs.Object.{changed_by_opening, block_opened}
 use Rattle.tracked_object.proofs.ObjectLaws.{length-opened}
 use Rattle.table.specs.declared.Counts.{Counts}
 use Rattle.table.specs.Slots.{floats_back}
-use Rattle.table.proofs.SlotLaws.{Sized, slots_length, slots_sized, block-fits, floats_behind, records_put, floats_put}
+use Rattle.table.proofs.SlotLaws.{Sized, slots_length, slots_sized, block_fits, floats_behind, records_put, floats_put}
 use Rattle.passes.specs.Checks.{Frame}
 use Rattle.passes.specs.Passes.{numbers}
 use Rattle.laws.specs.Lists.{EachBelow}
@@ -31,7 +31,7 @@ use Rattle.matching_step.specs.Step.{State, Fits, lent_detection, opening, slot_
 use Rattle.matching_step.specs.declared.Stepped.{Stepped}
 use Rattle.matching_step.proofs.Hitting.{next_most}
 use Rattle.matching_step.proofs.PutBack.{found, Put, put_long, part_again}
-use Rattle.matching_step.proofs.Lending.{lent_points, lent-scores}
+use Rattle.matching_step.proofs.Lending.{lent_points, lent_scores}
 
 -- ---- the counts
 
@@ -63,14 +63,14 @@ module _ (c : TrackerConfig) (f : Frame) (s : List Float) where
   opens_length (d ∷ l) st = omega (arith, simp length_snoc at (opens_length l (open_one c f s d st)))
 
   module _ (fits : Fits c f) where
-    pub opened_long : (d k : ℕ) → d < length f.has_scores_at → k * block_size c + block_size c ≤ length s
+    pub opened_long : (d k : ℕ) → d < length f.has_scores → k * block_size c + block_size c ≤ length s
         → length (block_opened c (lent_detection c f d) (take (block_size c) (drop (k * block_size c) s))) ≡ block_size c
     opened_long d k few room =
         let b = block_size c in
         let block = length_part s (k * b) b room in
-        length-opened c (lent_detection c f d) (take b (drop (k * b) s)) (lent_points fits few) (lent-scores fits few) block ∙ block
+        length-opened c (lent_detection c f d) (take b (drop (k * b) s)) (lent_points fits few) (lent_scores fits few) block ∙ block
 
-    pub opens_sized : (l : List ℕ) (st : State) → EachBelow (length f.has_scores_at) (length l) l → (length st.slots + length l) * block_size c ≤ length s
+    pub opens_sized : (l : List ℕ) (st : State) → EachBelow (length f.has_scores) (length l) l → (length st.slots + length l) * block_size c ≤ length s
         → Sized (block_size c) st.slots → Sized (block_size c) (opens l st).slots
     unfolding through
     opens_sized [] st few room sized = sized
@@ -78,7 +78,7 @@ module _ (c : TrackerConfig) (f : Frame) (s : List Float) where
         let b = block_size c in
         let k = length st.slots in
         let next = open_one c f s d st in
-        let long = opened_long d k (few 0 (omega arith)) (le_trans (block-fits b k (k + suc (length l)) (omega arith)) room) in
+        let long = opened_long d k (few 0 (omega arith)) (le_trans (block_fits b k (k + suc (length l)) (omega arith)) room) in
         let e : length next.slots + length l ≡ k + suc (length l) = omega (arith, opens_length (d ∷ []) st) in
         opens_sized l next (λ i h. few (suc i) (omega arith)) (rw e room) (every_append sized (one long none))
 
@@ -87,7 +87,7 @@ module _ (c : TrackerConfig) (f : Frame) (s : List Float) where
 module _ {c : TrackerConfig} {records₀ : List TrackedObject} {s₀ : List Float} {st : State} {rs : List TrackedObject} {n : Counts} {s : List Float}
     (put : Put c records₀ s₀ st rs n s) (sized : Sized (block_size c) st.slots) where
   -- the floats behind the slots are still the old ones
-  pub put_opened : (f : Frame) (d : ℕ) {o : Changed} {t : List Float} → length st.slots ≡ n.records → Fits c f → d < length f.has_scores_at
+  pub put_opened : (f : Frame) (d : ℕ) {o : Changed} {t : List Float} → length st.slots ≡ n.records → Fits c f → d < length f.has_scores
       → n.records < length records₀ → n.records * block_size c + block_size c ≤ length s₀
       → o ≡ changed_by_opening c (lent_detection c f d) f.period n.global n.initializing n.permanent
       → t ≡ paste s (n.records * block_size c) (block_opened c (lent_detection c f d) (take (block_size c) (drop (n.records * block_size c) s))) (block_size c)
@@ -110,12 +110,12 @@ pub record Openable (c : TrackerConfig) (f : Frame) (s : List Float) (st : State
   pub fits : Fits c f
   pub sized : Sized (block_size c) st.slots
   pub count : length st.slots ≡ st.counts.records
-  pub few : EachBelow (length f.has_scores_at) (length l) l
+  pub few : EachBelow (length f.has_scores) (length l) l
   pub room : (st.counts.records + length l) * block_size c ≤ length s
 
 -- of a table, and the numbers that a struct lists
 pub openable : {c : TrackerConfig} {f : Frame} (s : List Float) (records : List TrackedObject) (n : Counts) (left : Numbers) → Fits c f
-    → left.count ≤ length left.at → EachBelow (length f.has_scores_at) left.count left.at → (n.records + left.count) * block_size c ≤ length s
+    → left.count ≤ length left.at → EachBelow (length f.has_scores) left.count left.at → (n.records + left.count) * block_size c ≤ length s
     → Openable c f s (found c records s n) (numbers left)
 openable {c = c} s records n left fits listed few room =
     let b = block_size c in
@@ -133,11 +133,11 @@ module _ {c : TrackerConfig} {f : Frame} {s₀ : List Float} {st : State} {l : L
   as_many : length (take i l) ≡ i
   as_many = length-take-le i l most
 
-  pub turn-counts : Raised i st.counts n
-  turn-counts = rw put.counts (rw as_many at (opens_counts c f s₀ (take i l) st))
+  pub turn_counts : Raised i st.counts n
+  turn_counts = rw put.counts (rw as_many at (opens_counts c f s₀ (take i l) st))
 
   turn_here : length (opens c f s₀ (take i l) st).slots ≡ n.records
-  turn_here = omega (arith, opens_length c f s₀ (take i l) st, as_many, turn-counts.records, ready.count)
+  turn_here = omega (arith, opens_length c f s₀ (take i l) st, as_many, turn_counts.records, ready.count)
 
   turn_sized : Sized (block_size c) (opens c f s₀ (take i l) st).slots
   turn_sized =
@@ -149,10 +149,10 @@ module _ {c : TrackerConfig} {f : Frame} {s₀ : List Float} {st : State} {l : L
 
   pub turn_long : length s ≡ length s₀
   turn_long =
-      put_long put turn_sized (le_trans (mul-le-mul_right (block_size c) (omega (arith, turn_here, turn-counts.records))) ready.room)
+      put_long put turn_sized (le_trans (mul-le-mul_right (block_size c) (omega (arith, turn_here, turn_counts.records))) ready.room)
 
-  pub turn-room : i < length l → n.records * block_size c + block_size c ≤ length s₀
-  turn-room h = le_trans (block-fits (block_size c) n.records (st.counts.records + length l) (omega (arith, turn-counts.records))) ready.room
+  pub turn_room : i < length l → n.records * block_size c + block_size c ≤ length s₀
+  turn_room h = le_trans (block_fits (block_size c) n.records (st.counts.records + length l) (omega (arith, turn_counts.records))) ready.room
 
   pub turn_next : {d : ℕ} {o : Changed} {t : List Float} → i < length l → st.counts.records + length l ≤ length records₀ → d ≡ get_or l i 0
       → o ≡ changed_by_opening c (lent_detection c f d) f.period n.global n.initializing n.permanent
@@ -160,7 +160,7 @@ module _ {c : TrackerConfig} {f : Frame} {s₀ : List Float} {st : State} {l : L
       → Put c records₀ s₀ (opens c f s₀ (take (i + 1) l) st) (set rs n.records o.object) (opening o.issued n) t
   turn_next {d = d} h inside e opened floats =
       rw (sym (through_next (open_one c f s₀) l i 0 st h refl refl), ← e)
-      (put_opened put turn_sized f d turn_here ready.fits (rw e (ready.few i h)) (omega (arith, turn-counts.records)) (turn-room h) opened floats)
+      (put_opened put turn_sized f d turn_here ready.fits (rw e (ready.few i h)) (omega (arith, turn_counts.records)) (turn_room h) opened floats)
 
 -- ---- openings behind slots that were put back already
 

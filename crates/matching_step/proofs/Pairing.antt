@@ -32,5 +32,5 @@ module _ {A : Type 0} (l : List A) (f : Pick → A) (picks : Picks) (i : ℕ) wh
 pub length-picked : {A : Type 0} (f : Pick → A) (picks : Picks) → length (map f (picked picks)) ≡ picks.count
 length-picked f picks = simp (length-map, length-below)
 
-pub in-front : {A : Type 0} (n : ℕ) (d : A) (l : List A) {k : ℕ} {r : List A} → length l ≡ k → r ≡ filled n d l → take k r ≡ l
-in-front n d l e held = rw (held, ← e) (take-filled n d l)
+pub in_front : {A : Type 0} (n : ℕ) (d : A) (l : List A) {k : ℕ} {r : List A} → length l ≡ k → r ≡ filled n d l → take k r ≡ l
+in_front n d l e held = rw (held, ← e) (take-filled n d l)

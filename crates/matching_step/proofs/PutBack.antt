@@ -9,7 +9,7 @@ use Rattle.parts.specs.declared.TrackedObject.{TrackedObject}
 use Rattle.parts.specs.Layout.{block_size}
 use Rattle.table.specs.declared.Counts.{Counts}
 use Rattle.table.specs.Slots.{slots, records_back, floats_back}
-use Rattle.table.proofs.SlotLaws.{Sized, records_unmoved, floats_unmoved, floats-length, slots_back, records_again, floats_again}
+use Rattle.table.proofs.SlotLaws.{Sized, records_unmoved, floats_unmoved, floats_length, slots_back, records_again, floats_again}
 use Rattle.matching_step.specs.declared.Stepped.{Stepped}
 use Rattle.matching_step.specs.Step.{State, stepped_of}
 
@@ -40,7 +40,7 @@ put_found c records s n h =
 module _ {c : TrackerConfig} {records₀ : List TrackedObject} {s₀ : List Float} {st : State} {rs : List TrackedObject} {n : Counts} {s : List Float}
     (put : Put c records₀ s₀ st rs n s) (sized : Sized (block_size c) st.slots) where
   pub put_long : length st.slots * block_size c ≤ length s₀ → length s ≡ length s₀
-  put_long h = rw put.floats (floats-length sized s₀ h)
+  put_long h = rw put.floats (floats_length sized s₀ h)
 
   -- what was put back is found
   pub found_again : length st.slots ≡ st.counts.records → found c rs s n ≡ st

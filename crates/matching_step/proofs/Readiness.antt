@@ -16,7 +16,7 @@ use Rattle.laws.proofs.Growing.{length-keep}
 use Rattle.matching.specs.Greedy.{rows_of}
 use Rattle.matching.specs.Lent.{picked}
 use Rattle.matching.specs.Unmatched.{unmatched}
-use Rattle.matching.proofs.Left.{at_most-total}
+use Rattle.matching.proofs.Left.{at_most_total}
 use Rattle.matching.proofs.Picked.{picked_of}
 use Rattle.parts.specs.Layout.{coords}
 use Rattle.pairs.specs.declared.Pair.{Pair}
@@ -24,8 +24,8 @@ use Rattle.table.specs.declared.Table.{Table}
 use Rattle.table.specs.Making.{zero_object}
 use Rattle.table.specs.Refusals.{first_due, storage_need}
 use Rattle.table.proofs.Chain.{parts}
-use Rattle.table.proofs.Due.{Numbered, due-after, none-due}
-use Rattle.table.proofs.Facts.{WholeFacts, whole_facts, sizes_of, blocks-fit, object_in_range}
+use Rattle.table.proofs.Due.{Numbered, due_after, none_due}
+use Rattle.table.proofs.Facts.{WholeFacts, whole_facts, sizes_of, blocks_fit, object_in_range}
 use Rattle.passes.specs.declared.Lengths.{Lengths}
 use Rattle.passes.specs.Checks.{Frame, frame, lengths_of, given_checks, decided_checks}
 use Rattle.passes.specs.Passes.{numbers, among}
@@ -56,7 +56,7 @@ module _ (t : Table) (floats period detections : ℕ) (l : Lengths) (none : firs
   pub given_facts : GivenFacts t floats period detections l
   given_facts =
       let c = t.config in
-      let due = none-due (given_checks t floats period detections l) (given_numbered t floats period detections l) none in
+      let due = none_due (given_checks t floats period detections l) (given_numbered t floats period detections l) none in
       let fit =
       parts (eqb l.points (detections * coords c)) (
       eqb l.scores (detections * c.points) ∷ eqb l.has_scores detections ∷ eqb l.distances (detections * t.counts.records) ∷ []
@@ -98,7 +98,7 @@ module _ (t : Table) (detections : ℕ) (f : Frame) where
   unfolding to_open
   few_open =
       let first = rows_of (first_hits t detections f) in
-      le_trans (length-keep (among false (rows_of (second_hits t detections f))) (unmatched detections first)) (at_most-total detections first)
+      le_trans (length-keep (among false (rows_of (second_hits t detections f))) (unmatched detections first)) (at_most_total detections first)
 
   -- the refusal that waits for them
   abbrev pub decided_due : ℕ
@@ -107,7 +107,7 @@ module _ (t : Table) (detections : ℕ) (f : Frame) where
   roomy : decided_due ≡ 0 → t.counts.records + length (to_open t detections f) ≤ t.config.capacity
   roomy none =
       let more = length (to_open t detections f) in
-      let due = none-due (decided_checks t.config t.counts f.points more) (omega arith, (omega arith, (omega arith, tt))) none in
+      let due = none_due (decided_checks t.config t.counts f.points more) (omega arith, (omega arith, (omega arith, tt))) none in
       ltb-false t.config.capacity (t.counts.records + more) due.1.0
 
 -- ---- the refusals in their order
@@ -128,14 +128,14 @@ module _ (t : Table) (s : List Float) (detections : ℕ) (f : Frame) (places : �
   abbrev pub given_due : ℕ
   given_due = first_due (given_checks t (length s) f.period detections (lengths_of f places))
 
-  pub given-first : match_refusal t s detections f places ≡ cond (eqb given_due 0) (decided_due t detections f) given_due
-  given-first =
+  pub given_first : match_refusal t s detections f places ≡ cond (eqb given_due 0) (decided_due t detections f) given_due
+  given_first =
       let l = lengths_of f places in
-      due-after (given_checks t (length s) f.period detections l) (decided_checks t.config t.counts f.points (length (to_open t detections f)))
+      due_after (given_checks t (length s) f.period detections l) (decided_checks t.config t.counts f.points (length (to_open t detections f)))
       (given_numbered t (length s) f.period detections l)
 
   none_apart : match_refusal t s detections f places ≡ 0 → (given_due ≡ 0) × (decided_due t detections f ≡ 0)
-  none_apart none = apart given_due (decided_due t detections f) (sym given-first ∙ none)
+  none_apart none = apart given_due (decided_due t detections f) (sym given_first ∙ none)
 
   pub facts : match_refusal t s detections f places ≡ 0 → GivenFacts t (length s) f.period detections (lengths_of f places)
   facts none = given_facts t (length s) f.period detections (lengths_of f places) (none_apart none).0
@@ -151,7 +151,7 @@ module _ (t : Table) (s : List Float) (detections : ℕ) (f : Frame) (places : �
       record {
         fits =
             record {
-              sizes = sizes_of c w.in-range;
+              sizes = sizes_of c w.in_range;
               detections = rw g.marks g.few;
               points = rw g.marks g.points;
               scores = rw g.marks g.scores;
@@ -162,13 +162,13 @@ module _ (t : Table) (s : List Float) (detections : ℕ) (f : Frame) (places : �
               from = above_delay c.hit_counter_max c.initialization_delay w.delay_from w.delay_below;
               most = w.settings.maximum;
               fit = p.fit;
-              room = blocks-fit c n.records g.storage;
+              room = blocks_fit c n.records g.storage;
               ranges = λ i h. object_in_range c t.counts.frames _ (w.object i zero_object h (omega (arith, p.fit))) n.frames;
             };
         decidable = p;
         dead = (w.dead.count, names_once w.dead);
         places = le_trans room w.settings.capacity.1;
-        blocks = blocks-fit c room g.storage;
+        blocks = blocks_fit c room g.storage;
         opened = n.opened;
         permanent = omega (arith, n.permanent.1, n.opened);
         global = omega (arith, n.global, n.opened);
@@ -185,8 +185,8 @@ module _ (t : Table) (s : List Float) (detections : ℕ) (f : Frame) (places : �
   unfolding matched matched_floats
   refused_with_lem {n = n} due some same = rw (same, due, ne_eqb n 0 some) (refl, ((omega arith, omega arith), refl))
 
-  pub matched-given : {n : ℕ} {r : Matched} → n ≡ given_due → (n ≡ 0 → ⊥) → r ≡ refused_with n t → Answered r s
-  matched-given {n = n} due some = refused_with_lem (given-first ∙ rw (sym due, ne_eqb n 0 some)) some
+  pub matched_given : {n : ℕ} {r : Matched} → n ≡ given_due → (n ≡ 0 → ⊥) → r ≡ refused_with n t → Answered r s
+  matched_given {n = n} due some = refused_with_lem (given_first ∙ rw (sym due, ne_eqb n 0 some)) some
 
 -- ---- once the picks are decided: no refusal came before them, and they are the definition's
 
@@ -208,8 +208,8 @@ module _ {t : Table} {s : List Float} {detections : ℕ} {f : Frame} {places : �
   pub askable : (t.counts.records ≤ 64) × (t.counts.opened ≤ 2000000000) × (d.left.count ≤ 64)
   askable = (standing.fit, passed.whole.counts.opened, rw decided_is (omega (arith, few_open t detections f, passed.few)))
 
-  few-pairs : d.first.count + d.second.count ≤ 32
-  few-pairs = rw decided_is (le_trans (few_hits t detections f) passed.few)
+  few_pairs : d.first.count + d.second.count ≤ 32
+  few_pairs = rw decided_is (le_trans (few_hits t detections f) passed.few)
 
   -- what pairs_of asks: every hit lies in the matrix
   pub pairable : (d.first.count + d.second.count ≤ 32) × (detections ≤ 32) × (t.counts.records ≤ 64)
@@ -222,7 +222,7 @@ module _ {t : Table} {s : List Float} {detections : ℕ} {f : Frame} {places : �
       let one = first_passed m (numbers t.lists.alive) in
       let two = second_passed m (numbers t.lists.initializing) (rows_of (first_hits t detections f)) in
       let p = standing in
-      rw decided_is (rw decided_is at few-pairs, p.few, p.fit, p.distances, rows_inside one, cols_inside one, rows_inside two, cols_inside two)
+      rw decided_is (rw decided_is at few_pairs, p.few, p.fit, p.distances, rows_inside one, cols_inside one, rows_inside two, cols_inside two)
 
   -- the pairs listed are one for each hit
   listed : map (pair_of t.records f t.counts.records 1) (picked d.first) ++ map (pair_of t.records f t.counts.records 2) (picked d.second)
@@ -236,25 +236,25 @@ module _ {t : Table} {s : List Float} {detections : ℕ} {f : Frame} {places : �
 
   module _ {n : ℕ} (told : n ≡ first_due (decided_checks t.config t.counts f.points d.left.count)) where
     due_is : match_refusal t s detections f places ≡ n
-    due_is = given-first t s detections f places ∙ rw (came.none, told, decided_is)
+    due_is = given_first t s detections f places ∙ rw (came.none, told, decided_is)
 
     pub matched_decided : {r : Matched} → (n ≡ 0 → ⊥) → r ≡ refused_with n t → Answered t s detections f places r s
     matched_decided = refused_with_lem t s detections f places due_is
 
     module _ (nor : n ≡ 0) where
       -- what match_step asks, which counts the detections by their marks
-      pub startable : length t.records ≡ 64 → Ready t (length s) (length f.has_scores_at) f × (d ≡ decided_of t (length f.has_scores_at) f)
+      pub startable : length t.records ≡ 64 → Ready t (length s) (length f.has_scores) f × (d ≡ decided_of t (length f.has_scores) f)
       startable long = rw passed.marks (ready t s detections f places long (due_is ∙ nor), decided_is)
 
-      pub matched-accepted : {pairs : List Pair} {table : Table} {floats : List Float}
+      pub matched_accepted : {pairs : List Pair} {table : Table} {floats : List Float}
           → pairs
           ≡ filled 32 no_pair
           (map (pair_of t.records f t.counts.records 1) (picked d.first) ++ map (pair_of t.records f t.counts.records 2) (picked d.second))
-          → table ≡ match_table t s (length f.has_scores_at) f → floats ≡ match_floats t s (length f.has_scores_at) f
+          → table ≡ match_table t s (length f.has_scores) f → floats ≡ match_floats t s (length f.has_scores) f
           → Answered t s detections f places (record { pairs = pairs; count = d.first.count + d.second.count; refusal = 0; table = table }) floats
       unfolding matched matched_floats
-      matched-accepted paired stepped written =
+      matched_accepted paired stepped written =
           let none = due_is ∙ nor in (
             rw (none, paired, listed, counted, stepped, passed.marks),
-            ((few-pairs, le_trans few-pairs passed.places), rw (none, written, passed.marks)),
+            ((few_pairs, le_trans few_pairs passed.places), rw (none, written, passed.marks)),
           )

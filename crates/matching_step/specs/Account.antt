@@ -24,7 +24,7 @@ pub record Hit : Type 0 where
 pub record Opened : Type 0 where
   pub detection : ℕ
   pub name : ℕ
-  pub global_id_of : ℕ
+  pub global_id : ℕ
 
 -- permanent ID and the record that took it
 pub record Issue : Type 0 where
@@ -49,7 +49,7 @@ abbrev pub opened_names : List Opened → List ℕ
 opened_names l = map (λ o. o.name) l
 
 abbrev pub opened_globals : List Opened → List ℕ
-opened_globals l = map (λ o. o.global_id_of) l
+opened_globals l = map (λ o. o.global_id) l
 
 abbrev pub issued_numbers : List Issue → List ℕ
 issued_numbers l = map (λ i. i.number) l
@@ -74,7 +74,7 @@ issued_by_hits t f l st = gathered (hit_one t.config f t.counts.records) (issued
 -- ---- openings
 
 abbrev pub opened_by : ℕ → State → List Opened
-opened_by d st = record { detection = d; name = st.counts.initializing; global_id_of = st.counts.global } ∷ []
+opened_by d st = record { detection = d; name = st.counts.initializing; global_id = st.counts.global } ∷ []
 
 -- or, with delay 0, to a record as it is opened
 abbrev pub issued_by_opening : TrackerConfig → ℕ → State → List Issue
@@ -103,13 +103,13 @@ match_account t s detections f =
 -- a record and its global ID: as given at its opening, and as it shows it
 pub record Given : Type 0 where
   pub name : ℕ
-  pub global_id_of : ℕ
+  pub global_id : ℕ
 
 abbrev pub given : ℕ → ℕ → Given
-given name global_id_of = record { name = name; global_id_of = global_id_of }
+given name global_id = record { name = name; global_id = global_id }
 
 abbrev pub given_to : Opened → Given
-given_to o = given o.name o.global_id_of
+given_to o = given o.name o.global_id
 
 abbrev pub shown_by : TrackedObject → Given
 shown_by o = given (name_of o) o.origin.global_id

@@ -37,7 +37,7 @@ lent_detection c f d =
     detection
     (take (coords c) (drop (d * coords c) f.points))
     (take c.points (drop (d * c.points) f.scores))
-    (not (eqb (get_or f.has_scores_at d 0) 0))
+    (not (eqb (get_or f.has_scores d 0) 0))
 
 -- the matrix is detections by records in the table, row by row
 abbrev pub distance_of : Frame → ℕ → Pick → Float
@@ -235,9 +235,9 @@ decided_of t detections f =
 -- the inputs of step 2 fit the settings
 pub record Fits (c : TrackerConfig) (f : Frame) : Type 0 where
   pub sizes : Sizes c
-  pub detections : length f.has_scores_at ≤ 32
-  pub points : length f.points ≡ length f.has_scores_at * coords c
-  pub scores : length f.scores ≡ length f.has_scores_at * c.points
+  pub detections : length f.has_scores ≤ 32
+  pub points : length f.points ≡ length f.has_scores * coords c
+  pub scores : length f.scores ≡ length f.has_scores * c.points
   pub period : f.period ≤ 1000
 
 -- the records of the table and their blocks

@@ -10,19 +10,19 @@ use Rattle.parts.proofs.PastLaws.{inside}
 
 module _ (c : TrackerConfig) (h : Sizes c) where
   pub coords-most : coords c ≤ 48
-  coords-most = mul-le-mul h.points-most h.dims_most
+  coords-most = mul-le-mul h.points_most h.dims_most
 
   pub width-most : width c ≤ 64
-  width-most = omega (arith, coords-most, h.points-most)
+  width-most = omega (arith, coords-most, h.points_most)
 
-  pub history-most : c.past_detections_length * width c ≤ 512
-  history-most = mul-le-mul h.past_most width-most
+  pub history_most : c.past_detections_length * width c ≤ 512
+  history_most = mul-le-mul h.past_most width-most
 
-  pub block-most : block_size c ≤ 864
-  block-most = omega (arith, coords-most, width-most, history-most)
+  pub block_most : block_size c ≤ 864
+  block_most = omega (arith, coords-most, width-most, history_most)
 
   pub block_small : block_size c < 65536
-  block_small = omega (arith, block-most)
+  block_small = omega (arith, block_most)
 
 module _ (c : TrackerConfig) where
   pub filter_inside : 6 * coords c ≤ block_size c

@@ -17,16 +17,16 @@ stopped true false a b p q = rw q
 stopped false d a b p q = refl
 
 -- a record that is hit and was initializing, but is not now
-pub issued-hit : (period : ℕ) (maximum delay : ℤ) (reid_max : ReidCounter) (next : ℕ) (l : Life)
+pub issued_hit : (period : ℕ) (maximum delay : ℤ) (reid_max : ReidCounter) (next : ℕ) (l : Life)
     → (l.is_initializing && not (life_hit period maximum delay reid_max next l).is_initializing) ≡ promotes period maximum delay l
 unfolding life_hit
-issued-hit period maximum delay reid_max next l = stopped l.is_initializing (lt_z delay (raised period maximum l)) _ _ refl refl
+issued_hit period maximum delay reid_max next l = stopped l.is_initializing (lt_z delay (raised period maximum l)) _ _ refl refl
 
 settled : (b : Bool) → not (cond b false true) ≡ b
 settled true = refl
 settled false = refl
 
 -- a new record that is not initializing
-pub issued-opened : (period : ℕ) (delay : ℤ) (next : ℕ) → not (life_opened period delay next).is_initializing ≡ is_zero delay
+pub issued_opened : (period : ℕ) (delay : ℤ) (next : ℕ) → not (life_opened period delay next).is_initializing ≡ is_zero delay
 unfolding life_opened
-issued-opened period delay next = settled (is_zero delay)
+issued_opened period delay next = settled (is_zero delay)

@@ -68,9 +68,9 @@ module _ {A : Type 0} (most width at count : ℕ) (l : List A)
         let r = room.long in
         length-paste (room_made most width at count l) (place_of most width at count) entry width (omega arith) (omega arith) ∙ r
 
-    pub history-after : take (min (count + 1) most * width) (drop at (pushed most width at count entry l))
+    pub history_after : take (min (count + 1) most * width) (drop at (pushed most width at count entry l))
         ≡ drop ((count + 1 - min (count + 1) most) * width) (take (count * width) (drop at l) ++ entry)
-    history-after =
+    history_after =
         let i = inside most width count some in
         let r = room.long in
         let n = length-drop at l in

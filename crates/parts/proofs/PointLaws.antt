@@ -14,7 +14,7 @@ use lib.Seq.{get_or-set_same, get_or-set_other}
 use Rattle.laws.specs.Float64.{f1}
 use Rattle.laws.specs.Turns.{turns}
 use Rattle.laws.proofs.Flags.{bit_here, bit_there}
-use Rattle.laws.proofs.Turns.{turns-keep, turns_hold, turns_once, turns_part}
+use Rattle.laws.proofs.Turns.{turns_keep, turns_hold, turns_once, turns_part}
 use Rattle.parts.specs.Points.{above, with_flag, has_flag, points_fallen, points_hit, flags_set}
 use Rattle.parts.specs.Ranges.{PointsInRange}
 
@@ -28,9 +28,9 @@ set_there : (b : Bool) (i k f : ℕ) → i ≢ k → has_flag i (cond b (with_fl
 set_there true i k f h = ap (λ (n : ℕ). eqb n 1) (bit_there f k i (omega arith))
 set_there false i k f h = refl
 
-set-fits : (b : Bool) (k f : ℕ) → k < 16 → f < 2 ^ 16 → cond b (with_flag k f) f < 2 ^ 16
-set-fits true k f h p = or_lt 16 f (2 ^ k) p (pow-lt h)
-set-fits false k f h p = p
+set_fits : (b : Bool) (k f : ℕ) → k < 16 → f < 2 ^ 16 → cond b (with_flag k f) f < 2 ^ 16
+set_fits true k f h p = or_lt 16 f (2 ^ k) p (pow-lt h)
+set_fits false k f h p = p
 
 module _ (n : ℕ) (has : Bool) (t : Float) (without : Bool) (scores : List Float) (flags : ℕ) where
   abbrev turn_flags : ℕ → ℕ → ℕ
@@ -48,14 +48,14 @@ module _ (n : ℕ) (has : Bool) (t : Float) (without : Bool) (scores : List Floa
   pub flag_behind : (i : ℕ) → n ≤ i → has_flag i (flags_set n has t without scores flags) ≡ has_flag i flags
   unfolding flags_set
   flag_behind i h =
-      turns-keep turn_flags (has_flag i) n flags
+      turns_keep turn_flags (has_flag i) n flags
       (λ k f hk. set_there (above has t without (get_or scores k nan)) i k f (omega arith))
 
   pub flags_fit : flags < 2 ^ 16 → n ≤ 16 → flags_set n has t without scores flags < 2 ^ 16
   unfolding flags_set
   flags_fit p h =
       turns_hold turn_flags (λ f. f < 2 ^ 16) n flags
-      (λ k f hk. set-fits (above has t without (get_or scores k nan)) k f (omega arith)) p
+      (λ k f hk. set_fits (above has t without (get_or scores k nan)) k f (omega arith)) p
 
 -- ---- the counters
 
@@ -86,7 +86,7 @@ fall i r = set r i (get_or r i 0 - 1)
 
 pub length_fallen : (n : ℕ) (l : List ℕ) → length (points_fallen n l) ≡ length l
 unfolding points_fallen
-length_fallen n l = turns-keep fall length n l (λ k r h. store_length (get_or r k 0 - 1) true r k)
+length_fallen n l = turns_keep fall length n l (λ k r h. store_length (get_or r k 0 - 1) true r k)
 
 pub counter_fallen : (n : ℕ) (l : List ℕ) (i : ℕ) → i < n → i < length l → get_or (points_fallen n l) i 0 ≡ get_or l i 0 - 1
 unfolding points_fallen
@@ -113,17 +113,17 @@ module _ (n : ℕ) (has : Bool) (t : Float) (scores : List Float) (period maximu
   hit i r = cond (saw i) (set r i (up (get_or r i 0))) r
 
   length-turns : (k : ℕ) → length (turns hit k l) ≡ length l
-  length-turns k = turns-keep hit length k l (λ i r h. store_length (up (get_or r i 0)) (saw i) r i)
+  length-turns k = turns_keep hit length k l (λ i r h. store_length (up (get_or r i 0)) (saw i) r i)
 
   pub length-hit : length (points_hit n has t scores period maximum l) ≡ length l
   unfolding points_hit
   length-hit = length-turns n
 
-  pub counter-after : (i : ℕ) → i < n → i < length l
+  pub counter_after : (i : ℕ) → i < n → i < length l
       → get_or (points_hit n has t scores period maximum l) i 0
       ≡ cond (above has t (lt t f1) (get_or scores i nan)) (min (get_or l i 0 + period) maximum) (get_or l i 0)
   unfolding points_hit
-  counter-after i h hl =
+  counter_after i h hl =
       turns_once hit (λ r. get_or r i 0) (λ v. cond (saw i) (up v) v) i n l h
       (store_here (up (get_or (turns hit i l) i 0)) (saw i) (turns hit i l) i (rw (length-turns i) hl))
       (λ k r hk. store_there (up (get_or r k 0)) (saw k) r i k)

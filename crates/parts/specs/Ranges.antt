@@ -11,7 +11,7 @@ use Rattle.parts.specs.declared.Life.{Life}
 -- the sizes of rule 3 that the functions on a record lean on
 pub record Sizes (c : TrackerConfig) : Type 0 where
   pub some_points : 0 < c.points
-  pub points-most : c.points ≤ 16
+  pub points_most : c.points ≤ 16
   pub some_dims : 0 < c.dims
   pub dims_most : c.dims ≤ 3
   pub past_most : c.past_detections_length ≤ 8

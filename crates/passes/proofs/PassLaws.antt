@@ -11,21 +11,21 @@ use lib.ListN.{length, get_or, set, take, replicate, length-append, length-map}
 use lib.Seq.{get_or-set_other, take-suc, take_all}
 use Rattle.laws.specs.Lists.{below, keep, any, holds, times, EachBelow}
 use Rattle.laws.specs.Turns.{through}
-use Rattle.laws.proofs.Every.{each-padded}
+use Rattle.laws.proofs.Every.{each_padded}
 use Rattle.laws.proofs.Growing.{length-filled, take-filled}
 use Rattle.matching.specs.declared.Numbers.{Numbers}
 use Rattle.matching.specs.declared.Picks.{Picks}
 use Rattle.matching.specs.Greedy.{Matrix, Pick, free, marked, cleared, rows_of, cols_of}
 use Rattle.matching.specs.Lent.{picks_of}
 use Rattle.matching.specs.Unmatched.{unmatched, numbers_of}
-use Rattle.matching.proofs.Laws.{rows_taken, cols-taken}
-use Rattle.matching.proofs.Picked.{picked-cols}
-use Rattle.matching.proofs.Taken.{Taken, taken-append, taken_at_most, taken-below, taken-times, taken_once, used_not-taken}
+use Rattle.matching.proofs.Laws.{rows_taken, cols_taken}
+use Rattle.matching.proofs.Picked.{picked_cols}
+use Rattle.matching.proofs.Taken.{Taken, taken_append, taken_at_most, taken_below, taken_times, taken_once, used_not_taken}
 use Rattle.table.specs.declared.Candidates.{Candidates}
 use Rattle.table.specs.Making.{candidates_of}
 use Rattle.table.proofs.Facts.{ListFacts}
 use Rattle.passes.specs.Passes.{numbers, cols_picked, first_pass, second_pass, among, left_over, alive_left, old_ones, NamesOnce}
-use Rattle.laws.proofs.Counting.{times-append, times-keep, kept_at_most, times_below, below_once, not_held, no_times, held, few-below}
+use Rattle.laws.proofs.Counting.{times-append, times-keep, kept_at_most, times_below, below_once, not_held, no_times, held, few_below}
 
 -- ---- a struct of numbers lists what it was made of
 
@@ -49,7 +49,7 @@ module _ (l : List ℕ) {r : Numbers} (e : r ≡ numbers_of l) where
 -- ---- the candidates: the columns of picks, as the struct of picks lists them
 
 pub columns_listed : (l : List Pick) {p : Picks} → p ≡ picks_of l → ◌≡◌ {A = Candidates} (record { at = p.cols; count = p.count }) (candidates_of (cols_picked p))
-columns_listed l e = rw (e, picked-cols l, length-map l (λ q. q.col))
+columns_listed l e = rw (e, picked_cols l, length-map l (λ q. q.col))
 
 -- ---- a pass from these flags on: each row and column was free when it was picked
 
@@ -61,7 +61,7 @@ pub first_passed : (m : Matrix) (alive : List ℕ) → Passed m (replicate 32 fa
 unfolding first_pass
 first_passed m alive =
     let uc = cleared alive (replicate 64 true) in
-    record { rows = rows_taken m (replicate 32 false) uc; cols = cols-taken m (replicate 32 false) uc }
+    record { rows = rows_taken m (replicate 32 false) uc; cols = cols_taken m (replicate 32 false) uc }
 
 pub second_passed : (m : Matrix) (initializing rows : List ℕ)
     → Passed m (marked rows (replicate 32 false)) (cleared initializing (replicate 64 true)) (second_pass m initializing rows)
@@ -69,11 +69,11 @@ unfolding second_pass
 second_passed m initializing rows =
     let ur = marked rows (replicate 32 false) in
     let uc = cleared initializing (replicate 64 true) in
-    record { rows = rows_taken m ur uc; cols = cols-taken m ur uc }
+    record { rows = rows_taken m ur uc; cols = cols_taken m ur uc }
 
 -- what is taken stands below n, once
 taken_within : {n : ℕ} {u : List Bool} {l : List ℕ} → Taken n u l → (x : ℕ) → times x l ≤ times x (below n)
-taken_within {n} {u} t x = rw (times_below x n) (le_trans (taken-times t x) (go (free u x)))
+taken_within {n} {u} t x = rw (times_below x n) (le_trans (taken_times t x) (go (free u x)))
   where
     go : (b : Bool) → cond (b && ltb x n) 1 0 ≤ cond (ltb x n) 1 0
     go true = le_refl (cond (ltb x n) 1 0)
@@ -82,10 +82,10 @@ taken_within {n} {u} t x = rw (times_below x n) (le_trans (taken-times t x) (go 
 module _ {m : Matrix} {ur uc : List Bool} {l : List Pick} (p : Passed m ur uc l) where
   -- as the struct that is returned
   pub rows_inside : EachBelow m.rows (picks_of l).count (picks_of l).rows
-  rows_inside = each-padded 32 (rows_of l) (length-map l (λ q. q.row)) (taken-below p.rows)
+  rows_inside = each_padded 32 (rows_of l) (length-map l (λ q. q.row)) (taken_below p.rows)
 
   pub cols_inside : EachBelow m.cols (picks_of l).count (picks_of l).cols
-  cols_inside = each-padded 32 (cols_of l) (length-map l (λ q. q.col)) (taken-below p.cols)
+  cols_inside = each_padded 32 (cols_of l) (length-map l (λ q. q.col)) (taken_below p.cols)
 
   -- and as the one that `second_pass` takes
   pub rows_within : m.rows ≤ 32 → EachBelow 32 (picks_of l).count (picks_of l).rows
@@ -112,14 +112,14 @@ unlisted (i ∷ l) u x h =
 
 unlisted_unhit : {m : Matrix} {ur : List Bool} {l : List Pick} (list : List ℕ) → Passed m ur (cleared list (replicate 64 true)) l
     → (x : ℕ) → holds x list ≡ false → times x (cols_of l) ≡ 0
-unlisted_unhit list p x h = used_not-taken p.cols x (unlisted list (replicate 64 true) x h ∙ none_free 64 x)
+unlisted_unhit list p x h = used_not_taken p.cols x (unlisted list (replicate 64 true) x h ∙ none_free 64 x)
 
-pub first-alive : (m : Matrix) (alive : List ℕ) (x : ℕ) → holds x alive ≡ false → times x (cols_of (first_pass m alive)) ≡ 0
-first-alive m alive = unlisted_unhit alive (first_passed m alive)
+pub first_alive : (m : Matrix) (alive : List ℕ) (x : ℕ) → holds x alive ≡ false → times x (cols_of (first_pass m alive)) ≡ 0
+first_alive m alive = unlisted_unhit alive (first_passed m alive)
 
-pub second-initializing : (m : Matrix) (initializing rows : List ℕ) (x : ℕ) → holds x initializing ≡ false
+pub second_initializing : (m : Matrix) (initializing rows : List ℕ) (x : ℕ) → holds x initializing ≡ false
     → times x (cols_of (second_pass m initializing rows)) ≡ 0
-second-initializing m initializing rows = unlisted_unhit initializing (second_passed m initializing rows)
+second_initializing m initializing rows = unlisted_unhit initializing (second_passed m initializing rows)
 
 -- ---- who is left
 
@@ -146,17 +146,17 @@ module _ (m : Matrix) (alive initializing : List ℕ) where
   second = second_pass m initializing (rows_of first)
 
   -- pass 2 takes on from the rows that pass 1 left free
-  pub rows-taken_both : Taken m.rows (replicate 32 false) (rows_of first ++ rows_of second)
-  rows-taken_both = taken-append (first_passed m alive).rows (second_passed m initializing (rows_of first)).rows
+  pub rows_taken_both : Taken m.rows (replicate 32 false) (rows_of first ++ rows_of second)
+  rows_taken_both = taken_append (first_passed m alive).rows (second_passed m initializing (rows_of first)).rows
 
   pub hits_few : length first + length second ≤ m.rows
-  hits_few = omega (arith, simp (length-append, length-map) at (taken_at_most rows-taken_both))
+  hits_few = omega (arith, simp (length-append, length-map) at (taken_at_most rows_taken_both))
 
   -- hit in pass 1, hit in pass 2 or left over, exactly one
-  pub each-detection_once : (d : ℕ)
+  pub each_detection_once : (d : ℕ)
       → times d (rows_of first) + times d (rows_of second) + times d (left_over m.rows (rows_of first) (rows_of second)) ≡ times d (below m.rows)
-  each-detection_once d =
-      parted m.rows (rows_of first) (rows_of second) d (rw (times-append d (rows_of first) (rows_of second)) at (taken_within rows-taken_both d))
+  each_detection_once d =
+      parted m.rows (rows_of first) (rows_of second) d (rw (times-append d (rows_of first) (rows_of second)) at (taken_within rows_taken_both d))
 
   -- lists without overlap: no record is hit twice
   pub no_place_twice : ((x : ℕ) → times x alive + times x initializing ≤ 1) → (x : ℕ) → times x (cols_of first) + times x (cols_of second) ≤ 1
@@ -165,34 +165,34 @@ module _ (m : Matrix) (alive initializing : List ℕ) where
       go : (b : Bool) → holds x alive ≡ b → times x (cols_of first) + times x (cols_of second) ≤ 1
       go true h =
           let away = no_times x initializing (omega (arith, apart x, held x alive h)) in
-          omega (arith, second-initializing m initializing (rows_of first) x away, taken_once (first_passed m alive).cols x)
-      go false h = omega (arith, first-alive m alive x h, taken_once (second_passed m initializing (rows_of first)).cols x)
+          omega (arith, second_initializing m initializing (rows_of first) x away, taken_once (first_passed m alive).cols x)
+      go false h = omega (arith, first_alive m alive x h, taken_once (second_passed m initializing (rows_of first)).cols x)
 
 -- ---- the old ones
 
 -- a list, then what of another it does not name: a number stands there no more often than in either
-then-others : (x k : ℕ) (a l : List ℕ) → times x a ≤ k → times x l ≤ k → times x (a ++ keep (among false a) l) ≤ k
-then-others x k a l most also = rw (times-append x a (keep (among false a) l), times-keep x (among false a) l) (go (holds x a) refl)
+then_others : (x k : ℕ) (a l : List ℕ) → times x a ≤ k → times x l ≤ k → times x (a ++ keep (among false a) l) ≤ k
+then_others x k a l most also = rw (times-append x a (keep (among false a) l), times-keep x (among false a) l) (go (holds x a) refl)
   where
     go : (v : Bool) → holds x a ≡ v → times x a + cond (not v) (times x l) 0 ≤ k
     go true h = omega arith
     go false h = omega (arith, not_held x a h)
 
 module _ (records : ℕ) (alive dead hit : List ℕ) (named : NamesOnce records dead) where
-  old-most : NamesOnce records (old_ones records alive dead hit)
-  old-most x =
-      then-others x (times x (below records)) (alive_left records alive hit) dead
+  old_most : NamesOnce records (old_ones records alive dead hit)
+  old_most x =
+      then_others x (times x (below records)) (alive_left records alive hit) dead
       (le_trans (kept_at_most x (among true alive) (unmatched records hit)) (kept_at_most x (λ i. not (holds i hit)) (below records)))
       (named x)
 
   pub old_once : (x : ℕ) → times x (old_ones records alive dead hit) ≤ 1
-  old_once x = le_trans (old-most x) (below_once x records)
+  old_once x = le_trans (old_most x) (below_once x records)
 
   pub old_below : (x : ℕ) → records ≤ x → times x (old_ones records alive dead hit) ≡ 0
-  old_below x h = omega (arith, old-most x, rw (le-ltb x records h) at (times_below x records))
+  old_below x h = omega (arith, old_most x, rw (le-ltb x records h) at (times_below x records))
 
-  pub old-few : length (old_ones records alive dead hit) ≤ records
-  old-few = few-below records (old_ones records alive dead hit) old-most
+  pub old_few : length (old_ones records alive dead hit) ≤ records
+  old_few = few_below records (old_ones records alive dead hit) old_most
 
 -- ---- a list of a whole table names each place once
 

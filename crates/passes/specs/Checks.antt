@@ -16,12 +16,12 @@ pub record Frame : Type 0 where
   pub period : ℕ
   pub points : List Float
   pub scores : List Float
-  pub has_scores_at : List ℕ
+  pub has_scores : List ℕ
   pub distances : List Float
 
 abbrev pub frame : ℕ → List Float → List Float → List ℕ → List Float → Frame
-frame period points scores has_scores_at distances =
-    record { period = period; points = points; scores = scores; has_scores_at = has_scores_at; distances = distances }
+frame period points scores has_scores distances =
+    record { period = period; points = points; scores = scores; has_scores = has_scores; distances = distances }
 
 -- the pair list is an output: only its places matter
 abbrev pub lengths_of : Frame → ℕ → Lengths
@@ -29,7 +29,7 @@ lengths_of f places =
     record {
       points = length f.points;
       scores = length f.scores;
-      has_scores = length f.has_scores_at;
+      has_scores = length f.has_scores;
       distances = length f.distances;
       pairs = places;
     }

@@ -19,7 +19,7 @@ use Rattle.predict.specs.declared.Kept.{Kept}
 use Rattle.predict.specs.declared.Sort.{Sort}
 use Rattle.predict.specs.Step.{belongs, kept_of, kept_records, kept_floats, places_of, each_predicted}
 use Rattle.predict.proofs.Dropping.{stays, kept_most, kept_sized, kept_length}
-use Rattle.predict.proofs.Predicting.{predicted-length}
+use Rattle.predict.proofs.Predicting.{predicted_length}
 
 -- ---- behind the drop
 
@@ -28,8 +28,8 @@ module _ (c : TrackerConfig) (n : ℕ) (records : List TrackedObject) (s : List 
   pub few : k.count ≤ n
   few = rw kept (kept_most c records s n)
 
-  pub floats-room : k.count * block_size c ≤ length f
-  floats-room =
+  pub floats_room : k.count * block_size c ≤ length f
+  floats_room =
       rw (kept, floats, kept_length c records s n whole) (le_trans (mul-le-mul_right (block_size c) (kept_most c records s n)) whole)
 
   pub kept_ranges : AllInRange c n records → AllInRange c k.count k.records
@@ -49,14 +49,14 @@ module _ (c : TrackerConfig) (n : ℕ) (records : List TrackedObject) (s : List 
   found : slots (block_size c) k.records f k.count ≡ kept_of c n records s
   found = rw (kept, floats) (slots_back (kept_sized c records s n whole) records s)
 
-  pub records-predicted : records_back (each_predicted c (slots (block_size c) k.records f k.count)) k.records
+  pub records_predicted : records_back (each_predicted c (slots (block_size c) k.records f k.count)) k.records
       ≡ records_back (each_predicted c (kept_of c n records s)) records
-  records-predicted =
+  records_predicted =
       let l = kept_of c n records s in
-      rw (found, kept) (records_again l records (each_predicted c l) (omega (arith, predicted-length c l)))
+      rw (found, kept) (records_again l records (each_predicted c l) (omega (arith, predicted_length c l)))
 
-  pub floats-predicted : floats_back (block_size c) (each_predicted c (slots (block_size c) k.records f k.count)) f
+  pub floats_predicted : floats_back (block_size c) (each_predicted c (slots (block_size c) k.records f k.count)) f
       ≡ floats_back (block_size c) (each_predicted c (kept_of c n records s)) s
-  floats-predicted =
+  floats_predicted =
       let l = kept_of c n records s in
-      rw (found, floats) (floats_again (kept_sized c records s n whole) s (each_predicted c l) (omega (arith, predicted-length c l)))
+      rw (found, floats) (floats_again (kept_sized c records s n whole) s (each_predicted c l) (omega (arith, predicted_length c l)))

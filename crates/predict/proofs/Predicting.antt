@@ -16,12 +16,12 @@ use Rattle.tracked_object.specs.Object.{object_predicted, block_predicted}
 use Rattle.tracked_object.proofs.ObjectLaws.{length-predicted}
 use Rattle.table.specs.Making.{zero_object}
 use Rattle.table.specs.Slots.{Slot, slots, records_back, floats_back}
-use Rattle.table.proofs.SlotLaws.{Sized, slots_suc, slots_length, slots_sized, slot_at, block-fits, records-length, records_behind, records_put, floats-length, floats_put, floats_behind}
+use Rattle.table.proofs.SlotLaws.{Sized, slots_suc, slots_length, slots_sized, slot_at, block_fits, records_length, records_behind, records_put, floats_length, floats_put, floats_behind}
 use Rattle.predict.specs.Step.{slot_predicted, each_predicted}
 
 -- predicting keeps the number of slots and the sizes of blocks
-pub predicted-length : (c : TrackerConfig) (l : List Slot) → length (each_predicted c l) ≡ length l
-predicted-length c l = length-map l (slot_predicted c)
+pub predicted_length : (c : TrackerConfig) (l : List Slot) → length (each_predicted c l) ≡ length l
+predicted_length c l = length-map l (slot_predicted c)
 
 pub predicted_sized : (c : TrackerConfig) {b : ℕ} {l : List Slot} → Sized b l → Sized b (each_predicted c l)
 predicted_sized c sized = every_map (slot_predicted c) (every_weaker (λ x e. length-predicted c x.block ∙ e) sized)
@@ -31,7 +31,7 @@ module _ (c : TrackerConfig) (records : List TrackedObject) (s : List Float) (i 
   ahead = each_predicted c (slots (block_size c) records s i)
 
   ahead_length : length ahead ≡ i
-  ahead_length = predicted-length c (slots (block_size c) records s i) ∙ slots_length (block_size c) records s i
+  ahead_length = predicted_length c (slots (block_size c) records s i) ∙ slots_length (block_size c) records s i
 
   ahead_sized : i * block_size c ≤ length s → Sized (block_size c) ahead
   ahead_sized h = predicted_sized c (slots_sized (block_size c) records s i h)
@@ -42,15 +42,15 @@ module _ (c : TrackerConfig) (records : List TrackedObject) (s : List Float) (i 
       (map-append (slot_predicted c) (slots (block_size c) records s i) (slot_at (block_size c) records s i ∷ []))
 
   pub records_long : {rs : List TrackedObject} → i ≤ length records → rs ≡ records_back ahead records → length rs ≡ length records
-  records_long h held = rw held (records-length ahead records (omega (arith, ahead_length)))
+  records_long h held = rw held (records_length ahead records (omega (arith, ahead_length)))
 
   pub floats_long : {n : ℕ} {f : List Float} → i ≤ n → n * block_size c ≤ length s → f ≡ floats_back (block_size c) ahead s → length f ≡ length s
   floats_long h whole held =
       let room = le_trans (mul-le-mul_right (block_size c) h) whole in
-      rw held (floats-length (ahead_sized room) s (rw ahead_length room))
+      rw held (floats_length (ahead_sized room) s (rw ahead_length room))
 
   pub block_inside : {size n : ℕ} → size ≡ block_size c → i < n → n * block_size c ≤ length s → i * size + size ≤ length s
-  block_inside {n = n} e h whole = rw e (le_trans (block-fits (block_size c) i n h) whole)
+  block_inside {n = n} e h whole = rw e (le_trans (block_fits (block_size c) i n h) whole)
 
   -- the record is still as it was
   pub record_unmoved : {rs : List TrackedObject} → rs ≡ records_back ahead records → get_or rs i zero_object ≡ get_or records i zero_object
@@ -64,12 +64,12 @@ module _ (c : TrackerConfig) (records : List TrackedObject) (s : List Float) (i 
       let put = records_put ahead records y (omega (arith, ahead_length)) in
       rw (held, same, ahead_suc) (sym (put ∙ ap (λ (k : ℕ). set (records_back ahead records) k y.object) ahead_length))
 
-  pub block-predicted : {size : ℕ} {f g ys : List Float} → size ≡ block_size c → i * size + size ≤ length s
+  pub block_predicted_lem : {size : ℕ} {f g ys : List Float} → size ≡ block_size c → i * size + size ≤ length s
       → f ≡ floats_back (block_size c) ahead s
       → ys ≡ block_predicted c (take (i * size + size - i * size) (drop (i * size) f))
       → g ≡ take (i * size) f ++ (ys ++ drop (i * size + size - i * size) (drop (i * size) f))
       → g ≡ floats_back (block_size c) (each_predicted c (slots (block_size c) records s (suc i))) s
-  block-predicted {size = size} {f = f} {ys = ys} e room held same lent =
+  block_predicted_lem {size = size} {f = f} {ys = ys} e room held same lent =
       let b = block_size c in
       let fits : i * b + b ≤ length s = rw e at room in
       let sized = ahead_sized (omega (arith, fits)) in

@@ -10,7 +10,7 @@ use lib.Ieee.{Float}
 use lib.ListN.{length, get_or, take, drop}
 use lib.Seq.{take_at}
 use Rattle.laws.specs.Lists.{below, keep, holds, times}
-use Rattle.laws.proofs.Counting.{bit_at_most-one, times_kept, holds_kept}
+use Rattle.laws.proofs.Counting.{bit_at_most_one, times_kept, holds_kept}
 use Rattle.laws.proofs.Growing.{take-filled}
 use Rattle.laws.proofs.Weighing.{parted}
 use Rattle.matching.specs.declared.Numbers.{Numbers}
@@ -21,29 +21,29 @@ use Rattle.table.specs.declared.Table.{Table}
 use Rattle.table.specs.declared.Lists.{Lists}
 use Rattle.table.specs.Making.{zero_object}
 use Rattle.table.specs.Slots.{Slot, objects_of, table_slots, name_of, names, table_names}
-use Rattle.table.proofs.SlotLaws.{Sized, objects_length, names_objects, slots_objects, floats-length, floats_behind}
+use Rattle.table.proofs.SlotLaws.{Sized, objects_length, names_objects, slots_objects, floats_length, floats_behind}
 use Rattle.predict.specs.declared.Sort.{Sort}
 use Rattle.predict.specs.declared.Sort.TheVariants.{Alive, Initializing, Dead}
 use Rattle.predict.specs.Step.{gone, belongs, places_of, each_predicted, slots_kept, slots_after, predict_table, predict_floats, dropped}
 use Rattle.predict.proofs.Dropping.{kept_most, kept_sized}
-use Rattle.predict.proofs.Predicting.{predicted-length, predicted_sized}
+use Rattle.predict.proofs.Predicting.{predicted_length, predicted_sized}
 
 -- ---- the account
 
 -- predicting renames nobody
-names-predicted : (c : TrackerConfig) (l : List Slot) → names (each_predicted c l) ≡ names l
+names_predicted : (c : TrackerConfig) (l : List Slot) → names (each_predicted c l) ≡ names l
 unfolding object_predicted
-names-predicted c [] = refl
-names-predicted c (x ∷ l) = ap (λ (r : List ℕ). name_of x.object ∷ r) (names-predicted c l)
+names_predicted c [] = refl
+names_predicted c (x ∷ l) = ap (λ (r : List ℕ). name_of x.object ∷ r) (names_predicted c l)
 
 module _ (t : Table) (s : List Float) where
   pub names_kept : table_names (predict_table t s) ≡ names (slots_kept t s)
   unfolding predict_table
   names_kept =
       let after = slots_after t s in
-      let long = objects_length after ∙ predicted-length t.config (slots_kept t s) in
+      let long = objects_length after ∙ predicted_length t.config (slots_kept t s) in
       rw (take_at (objects_of after) (drop (length after) t.records) (length (slots_kept t s)) long)
-      (names_objects after ∙ names-predicted t.config (slots_kept t s))
+      (names_objects after ∙ names_predicted t.config (slots_kept t s))
 
   -- who is in the table after, and who was dropped: exactly who was in it before, as often
   pub fair : t.counts.records ≤ length t.records → (x : ℕ)
@@ -59,16 +59,16 @@ module _ (t : Table) (s : List Float) (room : t.counts.records * block_size t.co
   after_sized : Sized (block_size t.config) (slots_after t s)
   after_sized = predicted_sized t.config (kept_sized t.config t.records s t.counts.records room)
 
-  after-most : length (slots_after t s) * block_size t.config ≤ t.counts.records * block_size t.config
-  after-most = rw (predicted-length t.config (slots_kept t s)) (mul-le-mul_right (block_size t.config) (kept_most t.config t.records s t.counts.records))
+  after_most : length (slots_after t s) * block_size t.config ≤ t.counts.records * block_size t.config
+  after_most = rw (predicted_length t.config (slots_kept t s)) (mul-le-mul_right (block_size t.config) (kept_most t.config t.records s t.counts.records))
 
   pub length_kept : length (predict_floats t s) ≡ length s
   unfolding predict_floats
-  length_kept = floats-length after_sized s (le_trans after-most room)
+  length_kept = floats_length after_sized s (le_trans after_most room)
 
   pub rest_untouched : (k : ℕ) → t.counts.records * block_size t.config ≤ k → drop k (predict_floats t s) ≡ drop k s
   unfolding predict_floats
-  rest_untouched k h = floats_behind after_sized s k (le_trans after-most h)
+  rest_untouched k h = floats_behind after_sized s k (le_trans after_most h)
 
 -- ---- the lists
 
@@ -112,7 +112,7 @@ module _ (t : Table) (s : List Float) (sort : Sort) where
   membership i = ap (holds i) in_order ∙ holds_kept fitting i (predict_table t s).counts.records
 
   pub listed_once : (x : ℕ) → times x listed ≤ 1
-  listed_once x = rw (listed_times x) (bit_at_most-one (ltb x (predict_table t s).counts.records && fitting x))
+  listed_once x = rw (listed_times x) (bit_at_most_one (ltb x (predict_table t s).counts.records && fitting x))
 
   pub listed_below : (i : ℕ) → holds i listed ≡ true → i < (predict_table t s).counts.records
   listed_below i h =

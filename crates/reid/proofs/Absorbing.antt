@@ -10,7 +10,7 @@ use lib.Seq.{paste}
 use Rattle.laws.specs.Every.{Every, none, one}
 use Rattle.laws.specs.Turns.{through}
 use Rattle.laws.proofs.Every.{every_weaker, every_set, every_at}
-use Rattle.laws.proofs.Through.{through-keep}
+use Rattle.laws.proofs.Through.{through_keep}
 use Rattle.matching.specs.Greedy.{Pick}
 use Rattle.matching.proofs.Picked.{Inside}
 use Rattle.parts.specs.declared.TrackerConfig.{TrackerConfig}
@@ -21,14 +21,14 @@ use Rattle.tracked_object.specs.Object.{object_merged, block_merged}
 use Rattle.tracked_object.proofs.MergeLaws.{length-block_merged, length_past_merged, merged_in_range}
 use Rattle.table.specs.Making.{zero_object}
 use Rattle.table.specs.Slots.{Slot, no_slot, slots, records_back, floats_back, AllInRange}
-use Rattle.table.proofs.SlotLaws.{Sized, block-fits, block_whole, slots_length, slots_every, records_unmoved, floats_unmoved, records_at, records_swap, floats-length, floats_at, floats_swap}
+use Rattle.table.proofs.SlotLaws.{Sized, block_fits, block_whole, slots_length, slots_every, records_unmoved, floats_unmoved, records_at, records_swap, floats_length, floats_at, floats_swap}
 use Rattle.reid.specs.Step.{slot_merged, merge_one, merge_all}
 use Rattle.reid.proofs.Lending.{block_at}
 
 -- ---- what merges keep
 
-pub merges-length : (c : TrackerConfig) (picks : List Pick) (l : List Slot) → length (merge_all c picks l) ≡ length l
-merges-length c = through-keep (merge_one c) length (λ p l. length-set l p.col (slot_merged c (get_or l p.row no_slot) (get_or l p.col no_slot)))
+pub merges_length : (c : TrackerConfig) (picks : List Pick) (l : List Slot) → length (merge_all c picks l) ≡ length l
+merges_length c = through_keep (merge_one c) length (λ p l. length-set l p.col (slot_merged c (get_or l p.row no_slot) (get_or l p.col no_slot)))
 
 -- what a merge keeps true of a slot stays true of all
 module _ (c : TrackerConfig) (P : Slot → Type 0) (kept : (x y : Slot) → P x → P y → P (slot_merged c x y)) where
@@ -38,10 +38,10 @@ module _ (c : TrackerConfig) (P : Slot → Type 0) (kept : (x y : Slot) → P x 
       let y = get_or l p.col no_slot in
       every_set (λ z q. q) p.col (slot_merged c x y) no_slot all (kept x y (every_at p.row no_slot all h))
 
-  pub merges-keep : {n : ℕ} {picks : List Pick} (l : List Slot) → Every (Inside n n) picks → length l ≡ n → Every P l → Every P (merge_all c picks l)
+  pub merges_keep : {n : ℕ} {picks : List Pick} (l : List Slot) → Every (Inside n n) picks → length l ≡ n → Every P l → Every P (merge_all c picks l)
   unfolding through
-  merges-keep l none e all = all
-  merges-keep l (one {x = p} h r) e all = merges-keep (merge_one c p l) r (length-set l p.col _ ∙ e) (merge_keeps p l (omega (arith, h.0)) all)
+  merges_keep l none e all = all
+  merges_keep l (one {x = p} h r) e all = merges_keep (merge_one c p l) r (length-set l p.col _ ∙ e) (merge_keeps p l (omega (arith, h.0)) all)
 
 -- ---- what a merge leans on: a whole block, ranges, and a history of 8 places
 
@@ -86,7 +86,7 @@ module _ {c : TrackerConfig} {n : ℕ} {records₀ : List TrackedObject} {s₀ :
   sized = every_weaker (λ x f. f.sized) put.fit
 
   pub put_long : n * block_size c ≤ length s₀ → length s ≡ length s₀
-  put_long h = rw put.floats (floats-length sized s₀ (rw put.count h))
+  put_long h = rw put.floats (floats_length sized s₀ (rw put.count h))
 
   module _ (i : ℕ) (h : i < n) where
     inside : i < length l
@@ -103,7 +103,7 @@ module _ {c : TrackerConfig} {n : ℕ} {records₀ : List TrackedObject} {s₀ :
     put_range z = rw (object_read z) (every_at i no_slot put.fit inside).ranged
 
     pub put_inside : n * block_size c ≤ length s₀ → i * block_size c + block_size c ≤ length s
-    put_inside room = rw (put_long room) (le_trans (block-fits (block_size c) i n h) room)
+    put_inside room = rw (put_long room) (le_trans (block_fits (block_size c) i n h) room)
 
   -- one merge more
   pub put_merged : Sizes c → (p : Pick) (z : TrackedObject) {o : TrackedObject} {t : List Float} → p.row < n → p.col < n

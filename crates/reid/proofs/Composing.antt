@@ -8,7 +8,7 @@ use Rattle.laws.specs.Every.{Every}
 use Rattle.laws.proofs.Every.{every_weaker}
 use Rattle.matching.specs.declared.Picks.{Picks}
 use Rattle.matching.specs.Lent.{picks_of, picked}
-use Rattle.matching.proofs.Picked.{picked-rows, picked_of}
+use Rattle.matching.proofs.Picked.{picked_rows, picked_of}
 use Rattle.parts.specs.declared.TrackerConfig.{TrackerConfig}
 use Rattle.parts.specs.declared.TrackedObject.{TrackedObject}
 use Rattle.parts.specs.Layout.{block_size}
@@ -16,11 +16,11 @@ use Rattle.tracked_object.specs.Object.{object_merged}
 use Rattle.tracked_object.proofs.MergeLaws.{merging_long}
 use Rattle.table.specs.declared.Table.{Table}
 use Rattle.table.specs.Slots.{Slot, slots, records_back, floats_back, table_slots}
-use Rattle.table.proofs.SlotLaws.{Sized, block_whole, slots_length, slots_every, slots_back, floats-length}
+use Rattle.table.proofs.SlotLaws.{Sized, block_whole, slots_length, slots_every, slots_back, floats_length}
 use Rattle.reid.specs.declared.Staying.{Staying}
 use Rattle.reid.specs.Step.{slot_merged, merge_all, merges, staying_at, staying_of, slots_merged, slots_staying, reid_floats, Ready}
 use Rattle.reid.proofs.Places.{merges_within}
-use Rattle.reid.proofs.Absorbing.{merges-length, merges-keep}
+use Rattle.reid.proofs.Absorbing.{merges_length, merges_keep}
 
 -- ---- the merges keep the sizes of blocks
 
@@ -38,7 +38,7 @@ sound_merged c x y f g =
 module _ (t : Table) (s ds : List Float) where
   pub merged_length : length (slots_merged t s ds) ≡ t.counts.records
   unfolding slots_merged
-  merged_length = merges-length t.config (merges t ds) (table_slots t s) ∙ slots_length (block_size t.config) t.records s t.counts.records
+  merged_length = merges_length t.config (merges t ds) (table_slots t s) ∙ slots_length (block_size t.config) t.records s t.counts.records
 
 module _ (t : Table) (s ds : List Float) (ready : Ready t (length s) (length ds)) where
   sound : Every (Sound t.config) (table_slots t s)
@@ -52,10 +52,10 @@ module _ (t : Table) (s ds : List Float) (ready : Ready t (length s) (length ds)
   merged_sized =
       let long = slots_length (block_size t.config) t.records s t.counts.records in
       every_weaker (λ x f. f.sized)
-      (merges-keep t.config (Sound t.config) (sound_merged t.config) (table_slots t s) (merges_within t ds ready.meets) long sound)
+      (merges_keep t.config (Sound t.config) (sound_merged t.config) (table_slots t s) (merges_within t ds ready.meets) long sound)
 
   pub merged_floats : length (floats_back (block_size t.config) (slots_merged t s ds) s) ≡ length s
-  merged_floats = floats-length merged_sized s (rw (merged_length t s ds) ready.room)
+  merged_floats = floats_length merged_sized s (rw (merged_length t s ds) ready.room)
 
   -- ---- behind the merges
 
@@ -66,8 +66,8 @@ module _ (t : Table) (s ds : List Float) (ready : Ready t (length s) (length ds)
     unfolding slots_merged
     as_merged = rw (decided, picked_of (merges t ds))
 
-    pub floats-room : t.counts.records * block_size t.config ≤ length f
-    floats-room = rw (floats, as_merged, merged_floats) ready.room
+    pub floats_room : t.counts.records * block_size t.config ≤ length f
+    floats_room = rw (floats, as_merged, merged_floats) ready.room
 
     found : staying_at (take places.count places.rows) (slots (block_size t.config) merged f t.counts.records) ≡ slots_staying t s ds
     unfolding slots_staying
@@ -77,19 +77,19 @@ module _ (t : Table) (s ds : List Float) (ready : Ready t (length s) (length ds)
         let back : slots b merged f t.counts.records ≡ l =
         rw (records, floats, as_merged)
         (ap (slots b (records_back l t.records) (floats_back b l s)) (sym (merged_length t s ds)) ∙ slots_back merged_sized t.records s) in
-        rw (back, decided, picked-rows (merges t ds))
+        rw (back, decided, picked_rows (merges t ds))
 
     -- ---- behind the drop
 
     module _ {kept : Staying} {g : List Float}
         (dropped : kept ≡ staying_of (staying_at (take places.count places.rows) (slots (block_size t.config) merged f t.counts.records)) merged)
         (moved : g ≡ floats_back (block_size t.config) (staying_at (take places.count places.rows) (slots (block_size t.config) merged f t.counts.records)) f) where
-      pub count-after : kept.count ≡ length (slots_staying t s ds)
-      count-after = rw (dropped, found)
+      pub count_after : kept.count ≡ length (slots_staying t s ds)
+      count_after = rw (dropped, found)
 
-      pub records-after : kept.records ≡ records_back (slots_staying t s ds) (records_back (slots_merged t s ds) t.records)
-      records-after = rw (dropped, found, records, as_merged)
+      pub records_after : kept.records ≡ records_back (slots_staying t s ds) (records_back (slots_merged t s ds) t.records)
+      records_after = rw (dropped, found, records, as_merged)
 
-      pub floats-after : g ≡ reid_floats t s ds
+      pub floats_after : g ≡ reid_floats t s ds
       unfolding reid_floats
-      floats-after = rw (moved, found, floats, as_merged)
+      floats_after = rw (moved, found, floats, as_merged)

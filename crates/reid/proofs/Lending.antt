@@ -14,7 +14,7 @@ use Rattle.parts.specs.declared.TrackerConfig.{TrackerConfig}
 use Rattle.parts.specs.declared.block.Layout.{Layout}
 use Rattle.parts.specs.Layout.{block_size, layout_of}
 use Rattle.parts.specs.Ranges.{Sizes}
-use Rattle.table.proofs.Facts.{block-most}
+use Rattle.table.proofs.Facts.{block_most}
 
 -- by the layout that the code computed: blocks a and b lie in the floats
 pub record Lends (c : TrackerConfig) (r : Layout) (s : List Float) (a b : ℕ) : Type 0 where
@@ -37,7 +37,7 @@ module _ {c : TrackerConfig} {r : Layout} {s : List Float} {a b : ℕ} (lends : 
   on_inside = rw size_is lends.on
 
   pub size_most : r.size ≤ 864
-  size_most = rw size_is (block-most c lends.sizes)
+  size_most = rw size_is (block_most c lends.sizes)
 
   pub on_long : length (take (b * r.size + r.size - b * r.size) (drop (b * r.size) s)) ≡ block_size c
   on_long = part_long s (b * r.size) r.size on_inside ∙ size_is

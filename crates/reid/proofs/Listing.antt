@@ -12,8 +12,8 @@ use Rattle.laws.proofs.Fronts.{front_length, front_set}
 use Rattle.parts.specs.declared.TrackedObject.{TrackedObject}
 use Rattle.reid.specs.Step.{active, active_of, active_ids}
 
-pub active-few : (n : ℕ) (records : List TrackedObject) → length (active_ids n records) ≤ n
-active-few n records = simp length-map (omega (arith, length-keep active (take n records), length-take n records))
+pub active_few : (n : ℕ) (records : List TrackedObject) → length (active_ids n records) ≤ n
+active_few n records = simp length-map (omega (arith, length-keep active (take n records), length-take n records))
 
 -- the IDs of the first i in front of a list, and how many
 abbrev pub Listed : List TrackedObject → ℕ → List ℕ → List ℕ → ℕ → Type 0

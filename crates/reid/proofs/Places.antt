@@ -9,15 +9,15 @@ use lib.Ieee.{Float}
 use lib.ListN.{length, get_or, replicate, length-map}
 use Rattle.laws.specs.Every.{Every}
 use Rattle.laws.specs.Lists.{below, padded, EachBelow}
-use Rattle.laws.proofs.Every.{every_weaker, every_map, every_unmap, every_and, each-padded}
+use Rattle.laws.proofs.Every.{every_weaker, every_map, every_unmap, every_and, each_padded}
 use Rattle.laws.proofs.Growing.{length-below}
 use Rattle.matching.specs.declared.Numbers.{Numbers}
 use Rattle.matching.specs.declared.Picks.{Picks}
 use Rattle.matching.specs.Greedy.{Pick, rows_of, cols_of, picks}
 use Rattle.matching.specs.Lent.{lent, picks_of, picked}
-use Rattle.matching.proofs.Laws.{rows_taken, cols-taken, at_most-rows}
+use Rattle.matching.proofs.Laws.{rows_taken, cols_taken, at_most_rows}
 use Rattle.matching.proofs.Picked.{Inside, picked_of}
-use Rattle.matching.proofs.Taken.{taken-below}
+use Rattle.matching.proofs.Taken.{taken_below}
 use Rattle.table.specs.declared.Candidates.{Candidates}
 use Rattle.table.specs.declared.Table.{Table}
 use Rattle.reid.specs.Step.{candidates_met, reid_matrix, placed, merges, Meets}
@@ -47,8 +47,8 @@ bounded : {m n : ℕ} (l : List Pick) → length l ≤ 32 → Every (Inside m n)
 bounded l few all =
     record {
       few = few;
-      rows = each-padded 32 (rows_of l) (length-map l (λ p. p.row)) (every_map (λ p. p.row) (every_weaker (λ p w. w.0) all));
-      cols = each-padded 32 (cols_of l) (length-map l (λ p. p.col)) (every_map (λ p. p.col) (every_weaker (λ p w. w.1) all));
+      rows = each_padded 32 (rows_of l) (length-map l (λ p. p.row)) (every_map (λ p. p.row) (every_weaker (λ p w. w.0) all));
+      cols = each_padded 32 (cols_of l) (length-map l (λ p. p.col)) (every_map (λ p. p.col) (every_weaker (λ p w. w.1) all));
     }
 
 pub met_most : (b : Bool) (n : ℕ) → cond b n 0 ≤ n
@@ -59,11 +59,11 @@ module _ (t : Table) (ds : List Float) (meets : Meets t (length ds)) where
   rows_few : candidates_met t ≤ t.lists.candidates.count
   rows_few = met_most t.config.has_reid_distance t.lists.candidates.count
 
-  rows-most : candidates_met t ≤ 32
-  rows-most = le_trans rows_few meets.candidates.0
+  rows_most : candidates_met t ≤ 32
+  rows_most = le_trans rows_few meets.candidates.0
 
   pub matrix_fits : {rows : ℕ} → rows ≡ candidates_met t → (rows ≤ 32) × (t.lists.old.count ≤ 64) × (rows * t.lists.old.count ≤ length ds)
-  matrix_fits e = rw (e, meets.lent) (rows-most, meets.old.0, le_refl _)
+  matrix_fits e = rw (e, meets.lent) (rows_most, meets.old.0, le_refl _)
 
   abbrev found : List Pick
   found = picks (reid_matrix t ds) (replicate 32 false) (replicate 64 false)
@@ -73,11 +73,11 @@ module _ (t : Table) (ds : List Float) (meets : Meets t (length ds)) where
       let ur = replicate 32 false in
       let uc = replicate 64 false in
       every_and
-      (every_unmap (λ p. p.row) found (taken-below (rows_taken (reid_matrix t ds) ur uc)))
-      (every_unmap (λ p. p.col) found (taken-below (cols-taken (reid_matrix t ds) ur uc)))
+      (every_unmap (λ p. p.row) found (taken_below (rows_taken (reid_matrix t ds) ur uc)))
+      (every_unmap (λ p. p.col) found (taken_below (cols_taken (reid_matrix t ds) ur uc)))
 
   found_few : length found ≤ 32
-  found_few = le_trans (at_most-rows (reid_matrix t ds) (replicate 32 false) (replicate 64 false)) rows-most
+  found_few = le_trans (at_most_rows (reid_matrix t ds) (replicate 32 false) (replicate 64 false)) rows_most
 
   -- the picks that the matching returned
   module _ {rows : ℕ} {r : Picks} (e : rows ≡ candidates_met t)
@@ -88,11 +88,11 @@ module _ (t : Table) (ds : List Float) (meets : Meets t (length ds)) where
     pub picks_bounded : Bounded 32 64 r
     picks_bounded =
         rw same
-        (bounded found found_few (every_weaker (λ p w. (omega (arith, w.0, rows-most), omega (arith, w.1, meets.old.0))) found_within))
+        (bounded found found_few (every_weaker (λ p w. (omega (arith, w.0, rows_most), omega (arith, w.1, meets.old.0))) found_within))
 
-    pub places-merges : {q : Picks} → q ≡ picks_of (map (placed t.lists.candidates t.lists.old) (picked r)) → q ≡ picks_of (merges t ds)
+    pub places_merges : {q : Picks} → q ≡ picks_of (map (placed t.lists.candidates t.lists.old) (picked r)) → q ≡ picks_of (merges t ds)
     unfolding merges
-    places-merges at = at ∙ rw (same, picked_of found)
+    places_merges at = at ∙ rw (same, picked_of found)
 
   -- ---- the merges name records of the table
 
@@ -102,9 +102,9 @@ module _ (t : Table) (ds : List Float) (meets : Meets t (length ds)) where
       every_map (placed t.lists.candidates t.lists.old)
       (every_weaker (λ p w. (meets.candidates.1 p.row (omega (arith, w.0, rows_few)), meets.old.1 p.col w.1)) found_within)
 
-  merges-few : length (merges t ds) ≤ 32
+  merges_few : length (merges t ds) ≤ 32
   unfolding merges
-  merges-few = rw (length-map found (placed t.lists.candidates t.lists.old)) found_few
+  merges_few = rw (length-map found (placed t.lists.candidates t.lists.old)) found_few
 
   pub merges_bounded : {q : Picks} → q ≡ picks_of (merges t ds) → Bounded t.counts.records t.counts.records q
-  merges_bounded e = rw e (bounded (merges t ds) merges-few merges_within)
+  merges_bounded e = rw e (bounded (merges t ds) merges_few merges_within)

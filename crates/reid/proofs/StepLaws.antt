@@ -13,8 +13,8 @@ use Rattle.laws.specs.Every.{Every}
 use Rattle.laws.specs.Lists.{below, keep, holds, times, weight}
 use Rattle.laws.proofs.Counting.{holds_kept}
 use Rattle.laws.proofs.Every.{every_alike, every_at, every_keep, every_map, every_unmap, every_below, keep_every}
-use Rattle.laws.proofs.Growing.{at_most, length-below, take-each}
-use Rattle.laws.proofs.Through.{through-keep}
+use Rattle.laws.proofs.Growing.{at_most, length-below, take_each}
+use Rattle.laws.proofs.Through.{through_keep}
 use Rattle.laws.proofs.Weighing.{keep-map, load_cons, parted}
 use Rattle.matching.specs.Greedy.{Pick, rows_of}
 use Rattle.matching.specs.Unmatched.{unmatched}
@@ -28,11 +28,11 @@ use Rattle.table.specs.declared.Phase.TheVariants.{Predict}
 use Rattle.table.specs.declared.Table.{Table}
 use Rattle.table.specs.Making.{zero_object, no_lists}
 use Rattle.table.specs.Slots.{Slot, no_slot, objects_of, records_back, floats_back, table_slots, name_of, names, table_objects, table_names, table_initializing}
-use Rattle.table.proofs.SlotLaws.{Sized, objects_length, slots_at, floats-length, floats_behind}
+use Rattle.table.proofs.SlotLaws.{Sized, objects_length, slots_at, floats_length, floats_behind}
 use Rattle.reid.specs.Step.{slot_merged, merge_one, merges, slots_merged, slots_staying, reid_table, reid_floats, Absorbed, has_permanent, absorbed_of, absorbed, Ready}
 use Rattle.reid.proofs.Composing.{merged_length, merged_sized, merged_floats}
 -- the active list is no longer than the table
-pub use Rattle.reid.proofs.Listing.{active-few}
+pub use Rattle.reid.proofs.Listing.{active_few}
 
 -- ---- merging renames nobody
 
@@ -56,10 +56,10 @@ module _ {B : Type 0} (g : Who → B) where
   -- whatever is read off it: nothing changes
   pub merges_who : (t : Table) (s ds : List Float) → map (λ x. g (who x.object)) (slots_merged t s ds) ≡ map (λ x. g (who x.object)) (table_slots t s)
   unfolding slots_merged
-  merges_who t s ds = through-keep (merge_one t.config) (map (λ x. g (who x.object))) (merge_who t.config) (merges t ds) (table_slots t s)
+  merges_who t s ds = through_keep (merge_one t.config) (map (λ x. g (who x.object))) (merge_who t.config) (merges t ds) (table_slots t s)
 
-pub merges-names : (t : Table) (s ds : List Float) → names (slots_merged t s ds) ≡ names (table_slots t s)
-merges-names = merges_who name_in
+pub merges_names : (t : Table) (s ds : List Float) → names (slots_merged t s ds) ≡ names (table_slots t s)
+merges_names = merges_who name_in
 
 -- ---- who leaves, and who stays
 
@@ -144,8 +144,8 @@ module _ (t : Table) (s ds : List Float) where
       ∙ ap (map absorbed_in) (at_places (leaves t ds))
       ∙ map-map absorbed_in (λ i. who (object_at t i)) (leaving_places t ds)
 
-  absorbed-names : map (λ a. a.name) (absorbed t s ds) ≡ map (λ i. name_of (object_at t i)) (leaving_places t ds)
-  absorbed-names = ap (map (λ a. a.name)) absorbed_are ∙ map-map (λ a. a.name) (λ i. absorbed_in (who (object_at t i))) (leaving_places t ds)
+  absorbed_names_lem : map (λ a. a.name) (absorbed t s ds) ≡ map (λ i. name_of (object_at t i)) (leaving_places t ds)
+  absorbed_names_lem = ap (map (λ a. a.name)) absorbed_are ∙ map-map (λ a. a.name) (λ i. absorbed_in (who (object_at t i))) (leaving_places t ds)
 
   staying_count : length (slots_staying t s ds) ≡ length (staying_places t ds)
   unfolding slots_staying
@@ -164,7 +164,7 @@ module _ (t : Table) (s ds : List Float) where
   -- of a table that holds as many records as it counts
   module _ (most : t.counts.records ≤ length t.records) where
     objects_before : table_objects t ≡ map (object_at t) (below t.counts.records)
-    objects_before = sym (take-each t.records zero_object t.counts.records most)
+    objects_before = sym (take_each t.records zero_object t.counts.records most)
 
     whos_before : map who (table_objects t) ≡ map (λ i. who (object_at t i)) (below t.counts.records)
     whos_before = rw objects_before (map-map who (object_at t) (below t.counts.records))
@@ -173,7 +173,7 @@ module _ (t : Table) (s ds : List Float) where
     pub fair : (x : ℕ) → times x (table_names t) ≡ times x (table_names (reid_table t s ds)) + times x (map (λ a. a.name) (absorbed t s ds))
     unfolding times
     fair x =
-        rw (order_kept, absorbed-names, objects_before, map-map name_of (object_at t) (below t.counts.records))
+        rw (order_kept, absorbed_names_lem, objects_before, map-map name_of (object_at t) (below t.counts.records))
         (parted (λ y. cond (eqb y x) 1 0) (times x) refl (λ y l. refl) (λ i. name_of (object_at t i)) (leaves t ds) (below t.counts.records))
 
     -- of the initializing ones those absorbed are gone
@@ -233,7 +233,7 @@ module _ (t : Table) (s ds : List Float) (ready : Ready t (length s) (length ds)
   unfolding reid_floats
   length_kept =
       let long = merged_floats t s ds ready in
-      floats-length staying_sized (floats_back (block_size t.config) (slots_merged t s ds) s) (omega (arith, staying_most, ready.room, long)) ∙ long
+      floats_length staying_sized (floats_back (block_size t.config) (slots_merged t s ds) s) (omega (arith, staying_most, ready.room, long)) ∙ long
 
   pub rest_untouched : (k : ℕ) → t.counts.records * block_size t.config ≤ k → drop k (reid_floats t s ds) ≡ drop k s
   unfolding reid_floats

@@ -17,7 +17,7 @@ use Rattle.parts.specs.declared.TrackedObject.{TrackedObject}
 use Rattle.parts.specs.declared.TrackerConfig.{TrackerConfig}
 use Rattle.parts.specs.Layout.{block_size}
 use Rattle.parts.specs.Ranges.{Sizes, ReidInRange, PointsInRange, unaged, ObjectInRange}
-use Rattle.parts.proofs.Bounds.{coords-most, width-most, history-most}
+use Rattle.parts.proofs.Bounds.{coords-most, width-most, history_most}
 use Rattle.table.specs.declared.Counts.{Counts}
 use Rattle.table.specs.declared.Table.{Table}
 use Rattle.table.specs.Ranges.{between, signed_between, reid_between, settings_in_range, delay_negative, delay_too_long}
@@ -85,20 +85,20 @@ sizes_of c h =
     let f = settings_facts c h in
     record {
       some_points = f.points.0;
-      points-most = f.points.1;
+      points_most = f.points.1;
       some_dims = f.dims.0;
       dims_most = f.dims.1;
       past_most = f.history;
       pointwise_most = f.pointwise;
     }
 
-pub block-most : (c : TrackerConfig) → Sizes c → block_size c ≤ 864
-block-most c h = omega (arith, coords-most c h, width-most c h, history-most c h)
+pub block_most : (c : TrackerConfig) → Sizes c → block_size c ≤ 864
+block_most c h = omega (arith, coords-most c h, width-most c h, history_most c h)
 
 -- a storage of the need holds the blocks of as many records as there is room for
-pub blocks-fit : (c : TrackerConfig) {n floats : ℕ} → n ≤ c.capacity → storage_need c ≤ floats → n * block_size c ≤ floats
+pub blocks_fit : (c : TrackerConfig) {n floats : ℕ} → n ≤ c.capacity → storage_need c ≤ floats → n * block_size c ≤ floats
 unfolding storage_need
-blocks-fit c few enough = le_trans (mul-le-mul_right (block_size c) few) enough
+blocks_fit c few enough = le_trans (mul-le-mul_right (block_size c) few) enough
 
 -- ---- counts
 
@@ -211,7 +211,7 @@ list_facts places records n at h =
 -- ---- the table
 
 pub record WholeFacts (t : Table) : Type 0 where
-  pub in-range : settings_in_range t.config ≡ true
+  pub in_range : settings_in_range t.config ≡ true
   pub settings : SettingsFacts t.config
   pub delay_from : delay_negative t.config ≡ false
   pub delay_below : delay_too_long t.config ≡ false
@@ -248,7 +248,7 @@ whole_facts t h =
     ) p.1.1.1
     in
     record {
-      in-range = q.0;
+      in_range = q.0;
       settings = settings_facts t.config q.0;
       delay_from = q.1;
       delay_below = q.2;

@@ -10,22 +10,22 @@ use Rattle.table.specs.Ranges.{settings_in_range, delay_negative, delay_too_long
 use Rattle.table.specs.Refusals.{first_due, making_checks}
 use Rattle.table.specs.Wholeness.{counts_whole, records_whole, names_below, lists_whole, whole_table}
 use Rattle.table.specs.Making.{settled, zero_table, fresh_table, made}
-use Rattle.table.proofs.Due.{none-due}
+use Rattle.table.proofs.Due.{none_due}
 
 -- settings that pass the checks of making
 pub record Accepted (c : TrackerConfig) : Type 0 where
-  pub in-range : settings_in_range c ≡ true
+  pub in_range : settings_in_range c ≡ true
   pub delay_from : delay_negative c ≡ false
   pub delay_below : delay_too_long c ≡ false
 
 pub accepted : (c : TrackerConfig) (floats : ℕ) → first_due (making_checks c floats) ≡ 0 → Accepted c
 accepted c floats h =
-    let d = none-due (making_checks c floats) (omega arith, (omega arith, (omega arith, (omega arith, tt)))) h in
-    record { in-range = not-false _ d.1.1.0; delay_from = d.0; delay_below = d.1.0 }
+    let d = none_due (making_checks c floats) (omega arith, (omega arith, (omega arith, (omega arith, tt)))) h in
+    record { in_range = not-false _ d.1.1.0; delay_from = d.0; delay_below = d.1.0 }
 
 pub fresh_whole : (c : TrackerConfig) → Accepted c → whole_table (fresh_table c) ≡ true
 unfolding whole_table counts_whole records_whole any lists_whole names_below
-fresh_whole c h = rw (h.in-range, h.delay_from, h.delay_below, le-leb 0 c.capacity (omega arith))
+fresh_whole c h = rw (h.in_range, h.delay_from, h.delay_below, le-leb 0 c.capacity (omega arith))
 
 pub zero_not_whole : whole_table zero_table ≡ false
 unfolding whole_table settings_in_range
@@ -36,13 +36,13 @@ module _ (c : TrackerConfig) (floats : ℕ) where
   unfolding made
   refused_zero h = rw (ne_eqb _ 0 h)
 
-  pub accepted-fresh : (made c floats).refusal ≡ 0 → (made c floats).table ≡ fresh_table (settled c)
+  pub accepted_fresh : (made c floats).refusal ≡ 0 → (made c floats).table ≡ fresh_table (settled c)
   unfolding made
-  accepted-fresh h = rw (eq-eqb _ 0 h)
+  accepted_fresh h = rw (eq-eqb _ 0 h)
 
   pub refused_not_whole : ((made c floats).refusal ≡ 0 → ⊥) → whole_table (made c floats).table ≡ false
   refused_not_whole h = rw (refused_zero h) zero_not_whole
 
   pub accepted_whole : (made c floats).refusal ≡ 0 → whole_table (made c floats).table ≡ true
   unfolding made
-  accepted_whole h = rw (accepted-fresh h) (fresh_whole (settled c) (accepted (settled c) floats h))
+  accepted_whole h = rw (accepted_fresh h) (fresh_whole (settled c) (accepted (settled c) floats h))

@@ -15,7 +15,7 @@ use Rattle.laws.proofs.Pasting.{length_part}
 use Rattle.parts.specs.declared.TrackedObject.{TrackedObject}
 use Rattle.table.specs.Making.{zero_object}
 use Rattle.table.specs.Slots.{Slot, records_back, floats_back}
-use Rattle.table.proofs.SlotLaws.{Sized, slot_at, block-fits, block_whole, records_put, floats-length, floats_put, floats_behind}
+use Rattle.table.proofs.SlotLaws.{Sized, slot_at, block_fits, block_whole, records_put, floats_length, floats_put, floats_behind}
 
 -- what a turn that keeps record i leans on: where it and its block go, and that the block lies in the floats
 pub record Room (size : ℕ) (s f : List Float) (i k : ℕ) : Type 0 where
@@ -39,11 +39,11 @@ module _ (p : ℕ → Bool) (b : ℕ) (records : List TrackedObject) (s : List F
   moved_sized h = every_map (slot_at b records s) (every_keep p (every_below i (block_whole b i s h)))
 
   pub moved_length : i * b ≤ length s → length (floats_back b moved_down s) ≡ length s
-  moved_length h = floats-length (moved_sized h) s (le_trans (mul-le-mul_right b moved_most) h)
+  moved_length h = floats_length (moved_sized h) s (le_trans (mul-le-mul_right b moved_most) h)
 
   pub room : {n k : ℕ} {f : List Float} → i < n → n * b ≤ length s → k ≡ length moved_down → f ≡ floats_back b moved_down s → Room b s f i k
   room {n = n} h whole count floats =
-      let fits = le_trans (block-fits b i n h) whole in
+      let fits = le_trans (block_fits b i n h) whole in
       record {
         few = rw count moved_most;
         down = rw count (mul-le-mul_right b moved_most);

@@ -13,7 +13,7 @@ use Rattle.laws.specs.Lists.{below}
 use Rattle.laws.proofs.Elements.{get_or-any}
 use Rattle.laws.proofs.Every.{every_at, every_map, every_below}
 use Rattle.laws.proofs.Growing.{length_snoc}
-use Rattle.laws.proofs.Fronts.{front_length, front_behind, front-get_or-behind, front_set, front_put, front_paste, drop-take, take_fewer}
+use Rattle.laws.proofs.Fronts.{front_length, front_behind, front_get_or_behind, front_set, front_put, front_paste, drop-take, take_fewer}
 use Rattle.laws.proofs.Mapped.{map-set}
 use Rattle.laws.proofs.Pasting.{length_part}
 use Rattle.parts.specs.declared.TrackedObject.{TrackedObject}
@@ -26,49 +26,49 @@ Sized b l = Every (λ s. length s.block ≡ b) l
 
 -- ---- the blocks one behind another
 
-pub blocks-append : (l m : List Slot) → blocks_of (l ++ m) ≡ blocks_of l ++ blocks_of m
+pub blocks_append : (l m : List Slot) → blocks_of (l ++ m) ≡ blocks_of l ++ blocks_of m
 unfolding blocks_of
-blocks-append [] m = refl
-blocks-append (s ∷ l) m = rw (blocks-append l m) (sym (append_assoc s.block (blocks_of l) (blocks_of m)))
+blocks_append [] m = refl
+blocks_append (s ∷ l) m = rw (blocks_append l m) (sym (append_assoc s.block (blocks_of l) (blocks_of m)))
 
 pub blocks_snoc : (l : List Slot) (y : Slot) → blocks_of (l ++ (y ∷ [])) ≡ blocks_of l ++ y.block
 unfolding blocks_of
-blocks_snoc l y = blocks-append l (y ∷ []) ∙ ap (λ (r : List Float). blocks_of l ++ r) (append-nil y.block)
+blocks_snoc l y = blocks_append l (y ∷ []) ∙ ap (λ (r : List Float). blocks_of l ++ r) (append-nil y.block)
 
-pub blocks-length : {b : ℕ} {l : List Slot} → Sized b l → length (blocks_of l) ≡ length l * b
+pub blocks_length : {b : ℕ} {l : List Slot} → Sized b l → length (blocks_of l) ≡ length l * b
 unfolding blocks_of
-blocks-length {b = b} none = sym (zero-mul b)
-blocks-length {b = b} (one {x = s} {l} h r) = omega (arith, length-append s.block (blocks_of l), blocks-length r, suc-mul (length l) b)
+blocks_length {b = b} none = sym (zero-mul b)
+blocks_length {b = b} (one {x = s} {l} h r) = omega (arith, length-append s.block (blocks_of l), blocks_length r, suc-mul (length l) b)
 
 past_one : {b n : ℕ} (i : ℕ) → n ≡ b → suc i * b ≡ n + i * b
 past_one {b = b} i e = omega (arith, suc-mul i b)
 
-pub blocks-take : {b : ℕ} {l : List Slot} (i : ℕ) → Sized b l → take (i * b) (blocks_of l) ≡ blocks_of (take i l)
+pub blocks_take : {b : ℕ} {l : List Slot} (i : ℕ) → Sized b l → take (i * b) (blocks_of l) ≡ blocks_of (take i l)
 unfolding blocks_of
-blocks-take zero r = rw zero-mul
-blocks-take {b = b} (suc i) none = take-nil (suc i * b)
-blocks-take (suc i) (one h r) = rw (past_one i h, take-append-add, blocks-take i r)
+blocks_take zero r = rw zero-mul
+blocks_take {b = b} (suc i) none = take-nil (suc i * b)
+blocks_take (suc i) (one h r) = rw (past_one i h, take-append-add, blocks_take i r)
 
-pub blocks-drop : {b : ℕ} {l : List Slot} (i : ℕ) → Sized b l → drop (i * b) (blocks_of l) ≡ blocks_of (drop i l)
+pub blocks_drop : {b : ℕ} {l : List Slot} (i : ℕ) → Sized b l → drop (i * b) (blocks_of l) ≡ blocks_of (drop i l)
 unfolding blocks_of
-blocks-drop zero r = rw zero-mul
-blocks-drop {b = b} (suc i) none = drop-nil (suc i * b)
-blocks-drop (suc i) (one h r) = rw (past_one i h, drop-append-add, blocks-drop i r)
+blocks_drop zero r = rw zero-mul
+blocks_drop {b = b} (suc i) none = drop-nil (suc i * b)
+blocks_drop (suc i) (one h r) = rw (past_one i h, drop-append-add, blocks_drop i r)
 
-pub blocks-set : {b : ℕ} {l : List Slot} (i : ℕ) (y : Slot) → Sized b l → i < length l → length y.block ≡ b
+pub blocks_set : {b : ℕ} {l : List Slot} (i : ℕ) (y : Slot) → Sized b l → i < length l → length y.block ≡ b
     → blocks_of (set l i y) ≡ paste (blocks_of l) (i * b) y.block b
 unfolding blocks_of
-blocks-set {b = b} {l = l} i y r h e =
+blocks_set {b = b} {l = l} i y r h e =
     let whole = take_all b y.block (omega arith) in
-    rw (set_split l i y h, blocks-append, blocks-take i r, whole, ← suc-mul i b, blocks-drop (suc i) r)
+    rw (set_split l i y h, blocks_append, blocks_take i r, whole, ← suc-mul i b, blocks_drop (suc i) r)
     (sym (append_assoc (blocks_of (take i l)) y.block (blocks_of (drop (suc i) l))))
 
 -- a slot's block ends within the blocks
-pub block-fits : (b i n : ℕ) → i < n → i * b + b ≤ n * b
-block-fits b i n h = rw suc-mul at (mul-le-mul_right {m = suc i} {n = n} b h)
+pub block_fits : (b i n : ℕ) → i < n → i * b + b ≤ n * b
+block_fits b i n h = rw suc-mul at (mul-le-mul_right {m = suc i} {n = n} b h)
 
 pub block_whole : (b n : ℕ) (floats : List Float) → n * b ≤ length floats → (i : ℕ) → i < n → length (take b (drop (i * b) floats)) ≡ b
-block_whole b n floats room i h = length_part floats (i * b) b (le_trans (block-fits b i n h) room)
+block_whole b n floats room i h = length_part floats (i * b) b (le_trans (block_fits b i n h) room)
 
 -- ---- the records put back
 
@@ -80,8 +80,8 @@ names_objects [] = refl
 names_objects (x ∷ l) = ap (λ (r : List ℕ). name_of x.object ∷ r) (names_objects l)
 
 module _ (l : List Slot) (records : List TrackedObject) where
-  pub records-length : length l ≤ length records → length (records_back l records) ≡ length records
-  records-length = front_length (objects_of l) (length l) records (objects_length l)
+  pub records_length : length l ≤ length records → length (records_back l records) ≡ length records
+  records_length = front_length (objects_of l) (length l) records (objects_length l)
 
   pub records_front : (i : ℕ) (z : TrackedObject) → i < length l → get_or (records_back l records) i z ≡ get_or (objects_of l) i z
   records_front i z h = get_or-append (objects_of l) (drop (length l) records) z i (omega (arith, objects_length l))
@@ -91,7 +91,7 @@ module _ (l : List Slot) (records : List TrackedObject) where
       records_front i z h ∙ get_or-any (objects_of l) i z d.object (omega (arith, objects_length l)) ∙ get_or-map (λ s. s.object) l i d
 
   pub records_behind : (i : ℕ) (z : TrackedObject) → length l ≤ i → get_or (records_back l records) i z ≡ get_or records i z
-  records_behind = front-get_or-behind (objects_of l) (length l) records (objects_length l)
+  records_behind = front_get_or_behind (objects_of l) (length l) records (objects_length l)
 
   -- a second put-back covers the first
   pub records_again : (m : List Slot) → length l ≤ length m → records_back m (records_back l records) ≡ records_back m records
@@ -110,19 +110,19 @@ module _ (l : List Slot) (records : List TrackedObject) where
 -- ---- the floats put back
 
 module _ {b : ℕ} {l : List Slot} (sized : Sized b l) (floats : List Float) where
-  pub floats-length : length l * b ≤ length floats → length (floats_back b l floats) ≡ length floats
-  floats-length = front_length (blocks_of l) (length l * b) floats (blocks-length sized)
+  pub floats_length : length l * b ≤ length floats → length (floats_back b l floats) ≡ length floats
+  floats_length = front_length (blocks_of l) (length l * b) floats (blocks_length sized)
 
   pub floats_at : (i : ℕ) (d : Slot) → i < length l → take b (drop (i * b) (floats_back b l floats)) ≡ (get_or l i d).block
   unfolding blocks_of
   floats_at i d h =
       let rest = drop (length l * b) floats in
-      let fits = block-fits b i (length l) h in
-      rw (drop-append-le (i * b) (blocks_of l) rest (omega (arith, blocks-length sized)), blocks-drop i sized, drop-cons l i d h, append_assoc)
+      let fits = block_fits b i (length l) h in
+      rw (drop-append-le (i * b) (blocks_of l) rest (omega (arith, blocks_length sized)), blocks_drop i sized, drop-cons l i d h, append_assoc)
       (take_at (get_or l i d).block (blocks_of (drop (suc i) l) ++ rest) b (every_at i d sized h))
 
   pub floats_behind : (k : ℕ) → length l * b ≤ k → drop k (floats_back b l floats) ≡ drop k floats
-  floats_behind = front_behind (blocks_of l) (length l * b) floats (blocks-length sized)
+  floats_behind = front_behind (blocks_of l) (length l * b) floats (blocks_length sized)
 
   pub floats_again : (m : List Slot) → length l ≤ length m → floats_back b m (floats_back b l floats) ≡ floats_back b m floats
   floats_again m h = rw (floats_behind (length m * b) (mul-le-mul_right b h))
@@ -130,13 +130,13 @@ module _ {b : ℕ} {l : List Slot} (sized : Sized b l) (floats : List Float) whe
   pub floats_put : (y : Slot) → length y.block ≡ b
       → floats_back b (l ++ (y ∷ [])) floats ≡ paste (floats_back b l floats) (length l * b) y.block b
   floats_put y e =
-      rw (blocks_snoc, length_snoc, suc-mul) (front_put (blocks_of l) (length l * b) floats (blocks-length sized) y.block b e)
+      rw (blocks_snoc, length_snoc, suc-mul) (front_put (blocks_of l) (length l * b) floats (blocks_length sized) y.block b e)
 
   pub floats_swap : (i : ℕ) (y : Slot) → i < length l → length y.block ≡ b
       → floats_back b (set l i y) floats ≡ paste (floats_back b l floats) (i * b) y.block b
   floats_swap i y h e =
-      rw (blocks-set i y sized h e, length-set)
-      (front_paste (blocks_of l) (length l * b) floats (blocks-length sized) (i * b) y.block b (block-fits b i (length l) h))
+      rw (blocks_set i y sized h e, length-set)
+      (front_paste (blocks_of l) (length l * b) floats (blocks_length sized) (i * b) y.block b (block_fits b i (length l) h))
 
 -- ---- the slots of a table
 
@@ -182,17 +182,17 @@ module _ (b : ℕ) (records : List TrackedObject) (floats : List Float) where
   slots_objects zero h = refl
   slots_objects (suc n) h = rw (map-append, slots_objects n (omega arith), take-suc records n zero_object h)
 
-  pub slots-blocks : (n : ℕ) → blocks_of (slots b records floats n) ≡ take (n * b) floats
+  pub slots_blocks : (n : ℕ) → blocks_of (slots b records floats n) ≡ take (n * b) floats
   unfolding slots blocks_of
-  slots-blocks zero = rw zero-mul
-  slots-blocks (suc n) = rw (blocks_snoc, slots-blocks n, suc-mul, take-add)
+  slots_blocks zero = rw zero-mul
+  slots_blocks (suc n) = rw (blocks_snoc, slots_blocks n, suc-mul, take-add)
 
   -- put back where they stand, they move nothing
   pub records_unmoved : (n : ℕ) → n ≤ length records → records_back (slots b records floats n) records ≡ records
   records_unmoved n h = rw (slots_objects n h, slots_length n, take-append-drop)
 
   pub floats_unmoved : (n : ℕ) → floats_back b (slots b records floats n) floats ≡ floats
-  floats_unmoved n = rw (slots-blocks n, slots_length n, take-append-drop)
+  floats_unmoved n = rw (slots_blocks n, slots_length n, take-append-drop)
 
 -- what was put back is found again
 pub slots_back : {b : ℕ} {l : List Slot} → Sized b l → (records : List TrackedObject) (floats : List Float)

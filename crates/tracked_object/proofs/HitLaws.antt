@@ -24,21 +24,21 @@ use Rattle.tracked_object.proofs.AgeLaws.{ages_kept}
 
 -- ---- the hit counter: it rises, and not beyond the maximum
 
-smaller-most : (t : Bool) (a b : ℕ) → ltb a b ≡ t → mag (cond t (pos a) (pos b)) ≤ b
-smaller-most true a b h = let q = ltb-true a b h in omega arith
-smaller-most false a b h = omega arith
+smaller_most : (t : Bool) (a b : ℕ) → ltb a b ≡ t → mag (cond t (pos a) (pos b)) ≤ b
+smaller_most true a b h = let q = ltb-true a b h in omega arith
+smaller_most false a b h = omega arith
 
-from-below : (t : Bool) (a b n : ℕ) → a ≤ 20000 → n ≤ 10000 → mag (smaller_of (cond t (negsuc (suc a - suc b)) (pos (b - suc a))) (pos n)) ≤ 20000
-from-below true a b n h most = omega arith
-from-below false a b n h most = omega (arith, smaller-most (ltb (b - suc a) n) (b - suc a) n refl)
+from_below : (t : Bool) (a b n : ℕ) → a ≤ 20000 → n ≤ 10000 → mag (smaller_of (cond t (negsuc (suc a - suc b)) (pos (b - suc a))) (pos n)) ≤ 20000
+from_below true a b n h most = omega arith
+from_below false a b n h most = omega (arith, smaller_most (ltb (b - suc a) n) (b - suc a) n refl)
 
-raised-most : (rise : ℕ) (h maximum : ℤ) → le_z (pos 0) maximum ≡ true → le_z maximum (pos 10000) ≡ true → mag h ≤ 20000
+raised_most : (rise : ℕ) (h maximum : ℤ) → le_z (pos 0) maximum ≡ true → le_z maximum (pos 10000) ≡ true → mag h ≤ 20000
     → mag (smaller_of (h +ℤ pos rise) maximum) ≤ 20000
-raised-most rise h (negsuc n) from most low = let z : ◌≡◌ {A = ℕ} 0 1 = cc in absurd (omega arith)
-raised-most rise (pos a) (pos n) from most low =
-    omega (arith, leb-true n 10000 most, smaller-most (ltb (a + rise) n) (a + rise) n refl)
-raised-most rise (negsuc a) (pos n) from most low =
-    let q = leb-true n 10000 most in from-below (ltb rise (suc a)) a rise n low (omega arith)
+raised_most rise h (negsuc n) from most low = let z : ◌≡◌ {A = ℕ} 0 1 = cc in absurd (omega arith)
+raised_most rise (pos a) (pos n) from most low =
+    omega (arith, leb-true n 10000 most, smaller_most (ltb (a + rise) n) (a + rise) n refl)
+raised_most rise (negsuc a) (pos n) from most low =
+    let q = leb-true n 10000 most in from_below (ltb rise (suc a)) a rise n low (omega arith)
 
 -- ---- the life
 
@@ -49,15 +49,15 @@ cleared_in_range counter (Present m) h = tt
 module _ (period : ℕ) (maximum delay : ℤ) (reid_max : ReidCounter) (next : ℕ) (l : Life)
     (from : le_z (pos 0) maximum ≡ true) (most : le_z maximum (pos 10000) ≡ true) (old : LifeInRange l) where
   raised_in_range : mag (raised period maximum l) ≤ 20000
-  raised_in_range = raised-most (2 * period) l.hit_counter maximum from most old.hit_counter
+  raised_in_range = raised_most (2 * period) l.hit_counter maximum from most old.hit_counter
 
   either : (t : Bool) → LifeInRange (cond t (promoted (raised period maximum l) reid_max next l) (raised_only (raised period maximum l) l))
   either true = record { age = old.age; hit_counter = raised_in_range; reid_hit_counter = cleared_in_range l.reid_hit_counter reid_max old.reid_hit_counter }
   either false = record { age = old.age; hit_counter = raised_in_range; reid_hit_counter = old.reid_hit_counter }
 
-  life-hit_in_range : LifeInRange (life_hit period maximum delay reid_max next l)
+  life_hit_in_range : LifeInRange (life_hit period maximum delay reid_max next l)
   unfolding life_hit
-  life-hit_in_range = either (promotes period maximum delay l)
+  life_hit_in_range = either (promotes period maximum delay l)
 
 -- ---- the history
 
@@ -74,13 +74,13 @@ pub hit_in_range : (c : TrackerConfig) (d : Detection) (period : ℕ) (distance 
 unfolding object_hit
 hit_in_range c d period distance next o from most sizes old =
     record {
-      life = life-hit_in_range period c.hit_counter_max c.initialization_delay c.reid_hit_counter_max next o.life from most old.life;
+      life = life_hit_in_range period c.hit_counter_max c.initialization_delay c.reid_hit_counter_max next o.life from most old.life;
       counters =
-          points.hit_in_range c.points d.has_scores_at c.detection_threshold d.scores period c.pointwise_hit_counter_max o.point_hit_counter
+          points.hit_in_range c.points d.has_scores c.detection_threshold d.scores period c.pointwise_hit_counter_max o.point_hit_counter
           sizes.pointwise_most c.points old.counters;
       history = omega arith;
       ages =
-          marks_in_range c.past_detections_length o.past_count (record { age = negsuc 0; has_scores = d.has_scores_at }) o.past
+          marks_in_range c.past_detections_length o.past_count (record { age = negsuc 0; has_scores = d.has_scores }) o.past
           (ltb 0 c.past_detections_length) refl old.history (omega arith) old.ages;
       period = old.period;
     }

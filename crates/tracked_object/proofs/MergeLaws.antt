@@ -35,11 +35,11 @@ module _ (c : TrackerConfig) (four : c.past_detections_length ≡ 4) (has : Bool
   pub taken_at_12 : takes c 12 (record { age = pos 3; has_scores = has } ∷ others) 4 ≡ true
   taken_at_12 = rw four
 
-  pub not-taken_at_11 : takes c 11 (record { age = pos 3; has_scores = has } ∷ others) 4 ≡ false
-  not-taken_at_11 = rw four
+  pub not_taken_at_11 : takes c 11 (record { age = pos 3; has_scores = has } ∷ others) 4 ≡ false
+  not_taken_at_11 = rw four
 
-  pub not-taken_without_age : (age : ℕ) → takes c age (record { age = negsuc 0; has_scores = has } ∷ others) 4 ≡ false
-  not-taken_without_age age = rw four
+  pub not_taken_without_age : (age : ℕ) → takes c age (record { age = negsuc 0; has_scores = has } ∷ others) 4 ≡ false
+  not_taken_without_age age = rw four
 
 -- ---- what entries leave as it was
 
@@ -139,17 +139,17 @@ module _ (c : TrackerConfig) (candidate : TrackedObject) (from : List Float) (o 
   unfolding object_merged
   initializing_kept = refl
 
-  pub hit-counter_merged : merged.life.hit_counter ≡ pos (2 * o.origin.initial_period)
+  pub hit_counter_merged : merged.life.hit_counter ≡ pos (2 * o.origin.initial_period)
   unfolding object_merged
-  hit-counter_merged = refl
+  hit_counter_merged = refl
 
-  pub reid-counter_merged : merged.life.reid_hit_counter ≡ Absent
+  pub reid_counter_merged : merged.life.reid_hit_counter ≡ Absent
   unfolding object_merged
-  reid-counter_merged = refl
+  reid_counter_merged = refl
 
-  pub counters-taken : merged.point_hit_counter ≡ candidate.point_hit_counter
+  pub counters_taken : merged.point_hit_counter ≡ candidate.point_hit_counter
   unfolding object_merged
-  counters-taken = refl
+  counters_taken = refl
 
   pub flags_taken : merged.detected_at_least_once_points ≡ candidate.detected_at_least_once_points
   unfolding object_merged
@@ -217,8 +217,8 @@ module _ (c : TrackerConfig) (sizes : Sizes c) (candidate : TrackedObject) (from
       let n = 5 * coords c in
       as_filtered 0 n (omega arith) ∙ take_at (take n from) (drop (0 + n) l) n (length-take-le n from (omega arith))
 
-  pub last_detection-taken : take (width c) (drop (last_place c) (block_merged c candidate from o l)) ≡ take (width c) (drop (last_place c) from)
-  last_detection-taken =
+  pub last_detection_taken : take (width c) (drop (last_place c) (block_merged c candidate from o l)) ≡ take (width c) (drop (last_place c) from)
+  last_detection_taken =
       let e = long_filtered in
       let d = length-drop (last_place c) from in
       as_taken (last_place c) (width c) (omega arith)

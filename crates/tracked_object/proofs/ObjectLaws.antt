@@ -16,14 +16,14 @@ use Rattle.filter.specs.declared.Coordinate.{Coordinate}
 use Rattle.filter.specs.Coordinate.{started, updated}
 use Rattle.filter.specs.Mask.{mask_exists, observed}
 use Rattle.filter.specs.Block.{coordinate_at, each, start_of, predict_of, update_of}
-use Rattle.filter.proofs.Block.{length-each, each-coordinate, each_rest}
+use Rattle.filter.proofs.Block.{length-each, each_coordinate, each_rest}
 use Rattle.parts.specs.declared.TrackerConfig.{TrackerConfig}
 use Rattle.parts.specs.declared.TrackedObject.{TrackedObject}
 use Rattle.parts.specs.Layout.{coords, width, last_place, past_place, block_size}
 use Rattle.parts.specs.Past.{pushed}
 use Rattle.tracked_object.specs.Object.{Detection, stored, object_hit, block_predicted, block_hit, block_opened}
 use Rattle.parts.proofs.Bounds.{filter_inside, last_inside}
-use Rattle.parts.proofs.PastLaws.{length-pushed, history-after, history_elsewhere}
+use Rattle.parts.proofs.PastLaws.{length-pushed, history_after, history_elsewhere}
 
 -- ---- the record
 
@@ -34,16 +34,16 @@ module _ (c : TrackerConfig) (d : Detection) (period : ℕ) (distance : Float) (
   origin_hit = refl
 
   -- the history of marks: of the old one and the new mark behind it, the last L
-  pub marks-hit : 0 < c.past_detections_length → o.past_count ≤ c.past_detections_length → c.past_detections_length ≤ length o.past
+  pub marks_hit_lem : 0 < c.past_detections_length → o.past_count ≤ c.past_detections_length → c.past_detections_length ≤ length o.past
       → take (object_hit c d period distance next o).past_count (object_hit c d period distance next o).past
-      ≡ drop (o.past_count + 1 - c.past_detections_length) (take o.past_count o.past ++ (record { age = negsuc 0; has_scores = d.has_scores_at } ∷ []))
+      ≡ drop (o.past_count + 1 - c.past_detections_length) (take o.past_count o.past ++ (record { age = negsuc 0; has_scores = d.has_scores } ∷ []))
   unfolding object_hit
-  marks-hit some full fits =
+  marks_hit_lem some full fits =
       let most = c.past_detections_length in
       let count = o.past_count in
       let left : (count + 1 - min (count + 1) most) * 1 ≡ count + 1 - most = omega arith in
       rw (lt-ltb 0 most some)
-      (rw (mul-one (min (count + 1) most), mul-one count, left) at (history-after most 1 0 count o.past some full (omega arith) (record { age = negsuc 0; has_scores = d.has_scores_at } ∷ []) refl))
+      (rw (mul-one (min (count + 1) most), mul-one count, left) at (history_after most 1 0 count o.past some full (omega arith) (record { age = negsuc 0; has_scores = d.has_scores } ∷ []) refl))
 
 -- ---- a block's parts are read in front of where two blocks differ
 
@@ -89,7 +89,7 @@ module _ (c : TrackerConfig) (d : Detection) (l : List Float)
         same_coordinate changed (each g (coords c) l) (last_place c)
         (paste_front (each g (coords c) l) (last_place c) (stored d) (width c) (last_place c) (omega arith) (omega (arith, room)))
         (coords c) j h (omega arith)
-        ∙ each-coordinate g (coords c) l j h (rw block_long (filter_inside c))
+        ∙ each_coordinate g (coords c) l j h (rw block_long (filter_inside c))
 
     history_unchanged : drop (past_place c) changed ≡ drop (past_place c) l
     history_unchanged =
@@ -108,15 +108,15 @@ module _ (c : TrackerConfig) (d : Detection) (l : List Float)
   unfolding block_opened
   last_opened = last_changed (start_of c.filter d.points)
 
-  pub coordinate-opened : (j : ℕ) → j < coords c → coordinate_at (coords c) j (block_opened c d l) ≡ started c.filter (get_or d.points j nan)
+  pub coordinate_opened : (j : ℕ) → j < coords c → coordinate_at (coords c) j (block_opened c d l) ≡ started c.filter (get_or d.points j nan)
   unfolding block_opened
-  coordinate-opened = coordinate_changed (start_of c.filter d.points)
+  coordinate_opened = coordinate_changed (start_of c.filter d.points)
 
   -- ---- a block that is hit
 
   module _ (count : ℕ) (full : count ≤ c.past_detections_length) where
     abbrev update : ℕ → Coordinate → Coordinate
-    update = update_of c.filter c.dims d.points (mask_exists d.has_scores_at c.detection_threshold d.scores) c.detection_threshold d.scores
+    update = update_of c.filter c.dims d.points (mask_exists d.has_scores c.detection_threshold d.scores) c.detection_threshold d.scores
 
     -- the history lies in the block
     fits : past_place c + c.past_detections_length * width c ≤ length (changed update)
@@ -147,21 +147,21 @@ module _ (c : TrackerConfig) (d : Detection) (l : List Float)
         same_part (block_hit c d count l) (changed update) (last_place c) (width c) front_hit (omega (arith, length-hit)) (omega (arith, length_changed update))
         ∙ last_changed update
 
-    pub coordinate-hit : (j : ℕ) → j < coords c → coordinate_at (coords c) j (block_hit c d count l)
-        ≡ updated c.filter (get_or d.points j nan) (observed (mask_exists d.has_scores_at c.detection_threshold d.scores) c.detection_threshold (get_or d.scores (j / c.dims) nan)) (coordinate_at (coords c) j l)
-    coordinate-hit j h =
+    pub coordinate_hit : (j : ℕ) → j < coords c → coordinate_at (coords c) j (block_hit c d count l)
+        ≡ updated c.filter (get_or d.points j nan) (observed (mask_exists d.has_scores c.detection_threshold d.scores) c.detection_threshold (get_or d.scores (j / c.dims) nan)) (coordinate_at (coords c) j l)
+    coordinate_hit j h =
         same_coordinate (block_hit c d count l) (changed update) (past_place c) front_hit (coords c) j h (omega arith) ∙ coordinate_changed update j h
 
     -- the history of floats: of the one before the hit and the detection behind it, the last L entries
-    pub history-hit : 0 < c.past_detections_length
+    pub history_hit : 0 < c.past_detections_length
         → take (min (count + 1) c.past_detections_length * width c) (drop (past_place c) (block_hit c d count l))
         ≡ drop ((count + 1 - c.past_detections_length) * width c) (take (count * width c) (drop (past_place c) l) ++ stored d)
     unfolding block_hit
-    history-hit some =
+    history_hit some =
         let most = c.past_detections_length in
         let left : count + 1 - min (count + 1) most ≡ count + 1 - most = omega arith in
         rw (lt-ltb 0 most some)
-        (rw (left, history_unchanged update) at (history-after most (width c) (past_place c) count (changed update) some full fits (stored d) long))
+        (rw (left, history_unchanged update) at (history_after most (width c) (past_place c) count (changed update) some full fits (stored d) long))
 
 -- ---- a block that is predicted
 

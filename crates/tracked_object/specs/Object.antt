@@ -20,10 +20,10 @@ use Rattle.parts.specs.Past.{pushed, is_due}
 pub record Detection : Type 0 where
   pub points : List Float
   pub scores : List Float
-  pub has_scores_at : Bool
+  pub has_scores : Bool
 
 abbrev pub detection : List Float → List Float → Bool → Detection
-detection points scores has = record { points = points; scores = scores; has_scores_at = has }
+detection points scores has = record { points = points; scores = scores; has_scores = has }
 
 -- as it is stored: its coordinates, then its scores
 abbrev pub stored : Detection → List Float
@@ -58,13 +58,13 @@ marks_hit c has count past =
 unfoldable pub object_hit : TrackerConfig → Detection → ℕ → Float → ℕ → TrackedObject → TrackedObject
 object_hit c d period distance next o =
     record {
-      past = marks_hit c d.has_scores_at o.past_count o.past;
+      past = marks_hit c d.has_scores o.past_count o.past;
       past_count = min (o.past_count + 1) c.past_detections_length;
       point_hit_counter =
-          points_hit c.points d.has_scores_at c.detection_threshold d.scores period c.pointwise_hit_counter_max o.point_hit_counter;
+          points_hit c.points d.has_scores c.detection_threshold d.scores period c.pointwise_hit_counter_max o.point_hit_counter;
       detected_at_least_once_points =
-          flags_set c.points d.has_scores_at c.detection_threshold (lt c.detection_threshold f1) d.scores o.detected_at_least_once_points;
-      last = record { distance = Distance distance; has_scores = d.has_scores_at };
+          flags_set c.points d.has_scores c.detection_threshold (lt c.detection_threshold f1) d.scores o.detected_at_least_once_points;
+      last = record { distance = Distance distance; has_scores = d.has_scores };
       life = life_hit period c.hit_counter_max c.initialization_delay c.reid_hit_counter_max next o.life;
       origin = o.origin;
     }
@@ -81,7 +81,7 @@ changed_by_hit c d period distance next o =
 abbrev pub updated_and_stored : TrackerConfig → Detection → List Float → List Float
 updated_and_stored c d l =
     paste
-    (updated_block c.filter c.dims d.points d.has_scores_at c.detection_threshold d.scores (coords c) l)
+    (updated_block c.filter c.dims d.points d.has_scores c.detection_threshold d.scores (coords c) l)
     (last_place c)
     (stored d)
     (width c)
@@ -100,8 +100,8 @@ object_opened c d period global_id initializing_id next =
       past = replicate 8 unaged;
       past_count = 0;
       point_hit_counter = replicate 16 (min period c.pointwise_hit_counter_max);
-      detected_at_least_once_points = flags_set c.points d.has_scores_at c.detection_threshold true d.scores 0;
-      last = record { distance = Never; has_scores = d.has_scores_at };
+      detected_at_least_once_points = flags_set c.points d.has_scores c.detection_threshold true d.scores 0;
+      last = record { distance = Never; has_scores = d.has_scores };
       life = life_opened period c.initialization_delay next;
       origin = record { global_id = global_id; initializing_id = initializing_id; initial_period = period };
     }

@@ -25,9 +25,9 @@ pub predict_determined : (t : Table) (s : List Float) (a b : Answer) (s₁ s₂ 
     → PredictSays t s a s₁ → PredictSays t s b s₂ → (a ≡ b) × (s₁ ≡ s₂)
 predict_determined t s a b s₁ s₂ p q = (p.0 ∙ sym q.0, p.1 ∙ sym q.1)
 
-pub match-determined : (t : Table) (s : List Float) (n : ℕ) (f : Frame) (l : List Pair) (a b : Answer) (s₁ s₂ : List Float) (l₁ l₂ : List Pair)
+pub match_determined : (t : Table) (s : List Float) (n : ℕ) (f : Frame) (l : List Pair) (a b : Answer) (s₁ s₂ : List Float) (l₁ l₂ : List Pair)
     → MatchSays t s n f l a s₁ l₁ → MatchSays t s n f l b s₂ l₂ → (a ≡ b) × (s₁ ≡ s₂) × (l₁ ≡ l₂)
-match-determined t s n f l a b s₁ s₂ l₁ l₂ p q = (p.0 ∙ sym q.0, p.1 ∙ sym q.1, p.2 ∙ sym q.2)
+match_determined t s n f l a b s₁ s₂ l₁ l₂ p q = (p.0 ∙ sym q.0, p.1 ∙ sym q.1, p.2 ∙ sym q.2)
 
 pub reid_determined : (t : Table) (s d : List Float) (l : List ℕ) (a b : Answer) (s₁ s₂ : List Float) (l₁ l₂ : List ℕ)
     → ReidSays t s d l a s₁ l₁ → ReidSays t s d l b s₂ l₂ → (a ≡ b) × (s₁ ≡ s₂) × (l₁ ≡ l₂)
@@ -48,11 +48,11 @@ predict_refused t s refused = let e = ne_eqb (predict_refusal t s) 0 refused in 
 
 -- ---- a refused step 2 returns the table, the count 0, and leaves the storage and the pair list
 
-pub match-refused : (t : Table) (s : List Float) (n : ℕ) (f : Frame) (l : List Pair) → (match_refusal t s n f (length l) ≡ 0 → ⊥) →
+pub match_refused : (t : Table) (s : List Float) (n : ℕ) (f : Frame) (l : List Pair) → (match_refusal t s n f (length l) ≡ 0 → ⊥) →
     let a = match_answer t s n f (length l) in
     (a.table ≡ t) × (a.count ≡ 0) × (matched_floats t s n f (length l) ≡ s) × (match_pairs t s n f l ≡ l)
 unfolding match_answer matched_floats match_pairs
-match-refused t s n f l refused =
+match_refused t s n f l refused =
     let e = ne_eqb (match_refusal t s n f (length l)) 0 refused in
     (rw e, rw e, rw e, rw e)
 

@@ -7,21 +7,21 @@ use lib.ListN.{length}
 use Rattle.table.specs.declared.Table.{Table}
 use Rattle.table.specs.Making.{zero_object}
 use Rattle.table.specs.Refusals.{first_due, storage_need, predict_checks}
-use Rattle.table.proofs.Facts.{whole_facts, sizes_of, blocks-fit, object_in_range}
-use Rattle.table.proofs.Due.{none-due}
+use Rattle.table.proofs.Facts.{whole_facts, sizes_of, blocks_fit, object_in_range}
+use Rattle.table.proofs.Due.{none_due}
 use Rattle.predict.specs.Step.{Ready}
 use Rattle.reid.specs.Step as reid
 use Rattle.reid.specs.Step.{reid_checks}
 
 pub ready : (t : Table) (floats : ℕ) → length t.records ≡ 64 → first_due (predict_checks t floats) ≡ 0 → Ready t floats
 ready t floats long e =
-    let due = none-due (predict_checks t floats) (omega arith, (omega arith, (omega arith, (omega arith, tt)))) e in
+    let due = none_due (predict_checks t floats) (omega arith, (omega arith, (omega arith, (omega arith, tt)))) e in
     let f = whole_facts t (not-false _ due.0) in
     let c = t.config in
     record {
-      sizes = sizes_of c f.in-range;
+      sizes = sizes_of c f.in_range;
       fit = omega (arith, f.counts.records, f.settings.capacity.1);
-      room = blocks-fit c f.counts.records (ltb-false floats (storage_need c) due.1.0);
+      room = blocks_fit c f.counts.records (ltb-false floats (storage_need c) due.1.0);
       ranges = λ i h. object_in_range c t.counts.frames _ (f.object i zero_object h (omega (arith, f.counts.records, f.settings.capacity.1))) f.counts.frames;
       frames = f.counts.frames;
     }
@@ -30,13 +30,13 @@ ready t floats long e =
 pub reid_ready : (t : Table) (floats distances places : ℕ) → length t.records ≡ 64 → first_due (reid_checks t floats distances places) ≡ 0
     → reid.Ready t floats distances × (t.counts.records ≤ places)
 reid_ready t floats distances places long e =
-    let due = none-due (reid_checks t floats distances places) (omega arith, (omega arith, (omega arith, (omega arith, (omega arith, tt))))) e in
+    let due = none_due (reid_checks t floats distances places) (omega arith, (omega arith, (omega arith, (omega arith, (omega arith, tt))))) e in
     let f = whole_facts t (not-false _ due.0) in
     let c = t.config in (
       record {
-        sizes = sizes_of c f.in-range;
+        sizes = sizes_of c f.in_range;
         fit = omega (arith, f.counts.records, f.settings.capacity.1);
-        room = blocks-fit c f.counts.records (ltb-false floats (storage_need c) due.1.0);
+        room = blocks_fit c f.counts.records (ltb-false floats (storage_need c) due.1.0);
         ranges = λ i h. object_in_range c t.counts.frames _ (f.object i zero_object h (omega (arith, f.counts.records, f.settings.capacity.1))) f.counts.frames;
         meets =
             record {

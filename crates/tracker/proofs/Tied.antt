@@ -54,7 +54,7 @@ module _ {M : Type 1} {𝓤 : Ura M} (𝓛 : Logic 𝓤) (mem : Memory → SProp
   reid_tied κs args r end = (refl, refl)
 
   -- t, storage, period, detections, points, scores, has_scores, distances, pairs
-  pub match-tied : (κs : Lfts 6) (args : _) (r : _) (end : _) →
+  pub match_tied : (κs : Lfts 6) (args : _) (r : _) (end : _) →
       let says = matching.clauses 𝓛 mem run κs args in
       let t = args.0 in
       let s = args.1.0.now in
@@ -64,4 +64,4 @@ module _ {M : Type 1} {𝓤 : Ura M} (𝓛 : Logic 𝓤) (mem : Memory → SProp
       let l = more.1.1.1.1.0.now in
       (says.requires tt ≡ ⊤ₛ)
       × (says.ensures tt r end ≡ (⌜ MatchAnswers t s n f l r ⌝ ∗ (⌜ MatchLeaves t s n f l end.1.0.now ⌝ ∗ ⌜ MatchLists t s n f l end.1.1.1.1.1.1.1.1.0.now ⌝)))
-  match-tied κs args r end = (refl, refl)
+  match_tied κs args r end = (refl, refl)

@@ -8,7 +8,7 @@ use lib.ListN.{take}
 use Rattle.laws.specs.Lists.{below, keep, holds}
 use Rattle.laws.proofs.Standing.{Stands, below_joins, below_stays}
 use Rattle.matching.specs.Unmatched.{unmatched}
-use Rattle.matching.proofs.Left.{at_most-total}
+use Rattle.matching.proofs.Left.{at_most_total}
 use Rattle.matching.proofs.get_unmatched.Statement.{statement}
 use Rattle.matching.proofs.get_unmatched.Tie as tie
 use Rattle.matching.proofs.get_unmatched.Lts.{then-not-is_among, else-not-is_among}
@@ -34,7 +34,7 @@ room : (c : tie.Then-not-is_among invariant-loop-i decreases-loop-i) → c.loop-
 room c =
     omega (
       arith,
-      at_most-total c.loop-i.i
+      at_most_total c.loop-i.i
           (take c.args.n c.args.matched),
     )
 

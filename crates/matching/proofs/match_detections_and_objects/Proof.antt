@@ -13,11 +13,11 @@ use Rattle.matching.proofs.match_detections_and_objects.Statement.{statement}
 use Rattle.matching.proofs.match_detections_and_objects.Tie as tie
 
 abbrev invariant-loop-n : tie.invariant-loop-n
-invariant-loop-n matrix rows cols threshold used-rows₀ used-cols₀ picked-rows₀ picked-cols₀ n₀ used-rows used-cols picked-rows picked-cols n =
-    (n ≤ rows) × Held (lent matrix rows cols threshold) used-rows₀ used-cols₀ n used-rows used-cols picked-rows picked-cols
+invariant-loop-n matrix rows cols threshold used-rows₀ used-cols₀ picked-rows₀ picked-cols₀ n₀ used-rows used-cols picked_rows picked_cols n =
+    (n ≤ rows) × Held (lent matrix rows cols threshold) used-rows₀ used-cols₀ n used-rows used-cols picked_rows picked_cols
 
 abbrev decreases-loop-n : tie.decreases-loop-n
-decreases-loop-n matrix rows cols threshold used-rows₀ used-cols₀ picked-rows₀ picked-cols₀ n₀ used-rows used-cols picked-rows picked-cols n = rows - n
+decreases-loop-n matrix rows cols threshold used-rows₀ used-cols₀ picked-rows₀ picked-cols₀ n₀ used-rows used-cols picked_rows picked_cols n = rows - n
 
 loop-n-init : tie.Need-loop-n-init invariant-loop-n decreases-loop-n
 loop-n-init c = (search rules, held_first _ _ _)

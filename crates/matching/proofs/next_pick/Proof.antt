@@ -11,7 +11,7 @@ use mathlib.Core.Bool.{true, false, not, ◌&&◌}
 use Rattle.matching.specs.declared.Place.{Place}
 use Rattle.matching.specs.Greedy.{Matrix, eligible, smaller, scan_row, scan_rows}
 use Rattle.matching.specs.Lent.{lent}
-use Rattle.matching.proofs.Best.{Best, beats_is, look-taken, look_left}
+use Rattle.matching.proofs.Best.{Best, beats_is, look_taken, look_left}
 use borrow.Author.Rules.{rules}
 use Rattle.matching.proofs.next_pick.Statement.{statement}
 use Rattle.matching.proofs.next_pick.Tie as tie
@@ -107,18 +107,18 @@ abbrev found : tie.Joined-both invariant-loop-j decreases-loop-j invariant-loop-
 found c = c.loop-j.place
 
 -- both flags lie within their arrays
-flag-row : (c : tie.Joined-both invariant-loop-j decreases-loop-j invariant-loop-i decreases-loop-i invariant-loop-used_rows decreases-loop-used_rows) → get_or c.args.used_rows (row c) false ≡ get_or c.args.used_rows (row c) true
-flag-row c = get_or-any c.args.used_rows (row c) false true (omega (arith, c.well_formed.1.1.1.1.0.1.0.1))
+flag_row : (c : tie.Joined-both invariant-loop-j decreases-loop-j invariant-loop-i decreases-loop-i invariant-loop-used_rows decreases-loop-used_rows) → get_or c.args.used_rows (row c) false ≡ get_or c.args.used_rows (row c) true
+flag_row c = get_or-any c.args.used_rows (row c) false true (omega (arith, c.well_formed.1.1.1.1.0.1.0.1))
 
-flag-col : (c : tie.Joined-both invariant-loop-j decreases-loop-j invariant-loop-i decreases-loop-i invariant-loop-used_rows decreases-loop-used_rows) → get_or c.args.used_cols (col c) false ≡ get_or c.args.used_cols (col c) true
-flag-col c = get_or-any c.args.used_cols (col c) false true (omega (arith, c.well_formed.1.1.1.1.1.0.1.0.1))
+flag_col : (c : tie.Joined-both invariant-loop-j decreases-loop-j invariant-loop-i decreases-loop-i invariant-loop-used_rows decreases-loop-used_rows) → get_or c.args.used_cols (col c) false ≡ get_or c.args.used_cols (col c) true
+flag_col c = get_or-any c.args.used_cols (col c) false true (omega (arith, c.well_formed.1.1.1.1.1.0.1.0.1))
 
 -- the turn's test is that of `look`
 test : (c : tie.Joined-both invariant-loop-j decreases-loop-j invariant-loop-i decreases-loop-i invariant-loop-used_rows decreases-loop-used_rows)
     → c.both.result ≡ (eligible (seen c) c.args.used_rows c.args.used_cols (row c) (col c) && smaller (seen c).entry ((seen c).entry (row c) (col c)) (found c))
 test c =
     c.both.ensures
-    ∙ ap₂ ◌&&◌ (c.both-eligible.ensures ∙ ap₂ ◌&&◌ c.counts.ensures (c.both-free.ensures ∙ ap₂ (λ a b. not a && not b) (flag-row c) (flag-col c)))
+    ∙ ap₂ ◌&&◌ (c.both-eligible.ensures ∙ ap₂ ◌&&◌ c.counts.ensures (c.both-free.ensures ∙ ap₂ (λ a b. not a && not b) (flag_row c) (flag_col c)))
     (c.beats.ensures ∙ beats_is (seen c) (found c) c.loop-j.best ((seen c).entry (row c) (col c)) c.loop-j.invariant.2)
 
 loop-j-preserved : tie.Need-loop-j-preserved invariant-loop-j decreases-loop-j invariant-loop-i decreases-loop-i invariant-loop-used_rows decreases-loop-used_rows
@@ -127,7 +127,7 @@ loop-j-preserved c =
     elim c.if-both.branch [
       | then-both w ↦ (
         omega arith,
-        rw (add-one, w.place-is, ← c.loop-j.invariant.1) (look-taken (seen c) c.args.used_rows c.args.used_cols (row c) (col c) (found c) c.both.result (test c) w.if-both.true),
+        rw (add-one, w.place-is, ← c.loop-j.invariant.1) (look_taken (seen c) c.args.used_rows c.args.used_cols (row c) (col c) (found c) c.both.result (test c) w.if-both.true),
         rw (w.place-is, w.best-is) refl,
       )
       | else-both w ↦ (

@@ -13,7 +13,7 @@ use Rattle.tracked_object.specs.Object.{object_predicted}
 use Rattle.table.specs.Making.{zero_object}
 use Rattle.table.specs.Slots.{slots, blocks_of, records_back, floats_back}
 use Rattle.predict.specs.Step.{each_predicted}
-use Rattle.predict.proofs.Predicting.{records_long, floats_long, block_inside, record_unmoved, record_predicted, block-predicted}
+use Rattle.predict.proofs.Predicting.{records_long, floats_long, block_inside, record_unmoved, record_predicted, block_predicted_lem}
 use Rattle.table.proofs.Reading.{blank, read}
 use Rattle.predict.proofs.predict_each.Statement.{statement}
 use Rattle.predict.proofs.predict_each.Tie as tie
@@ -122,7 +122,7 @@ loop-i-preserved c =
     let all : length a.records ≡ 64 = (given l).well_formed.1.0.1.0.1 in (
       search rules,
       rw add-one (record_predicted a.config a.records a.s.now l.loop-i.i (omega arith) l.loop-i.invariant.1 object),
-      rw add-one (block-predicted a.config a.records a.s.now l.loop-i.i (size_of l) (inside t).0 l.loop-i.invariant.2 called.predict-next.ensures.1 refl),
+      rw add-one (block_predicted_lem a.config a.records a.s.now l.loop-i.i (size_of l) (inside t).0 l.loop-i.invariant.2 called.predict-next.ensures.1 refl),
     )
 
 shape_of-s : tie.Need-shape_of-s invariant-loop-i decreases-loop-i

@@ -6,7 +6,7 @@ use borrow.Author.Rules.{rules}
 use Rattle.predict.specs.declared.Kept.{Kept}
 use Rattle.predict.specs.declared.Sort.TheVariants.{Alive, Initializing, Dead}
 use Rattle.predict.specs.Step.{predict_table, predict_floats}
-use Rattle.predict.proofs.Composing.{few, floats-room, kept_ranges, sorted, records-predicted, floats-predicted}
+use Rattle.predict.proofs.Composing.{few, floats_room, kept_ranges, sorted, records_predicted, floats_predicted}
 use Rattle.predict.proofs.predict_table.Statement.{statement}
 use Rattle.predict.proofs.predict_table.Tie as tie
 
@@ -39,7 +39,7 @@ predict_each-predicted-requires c κs =
     let e = d.drop_gone-kept.ensures in (
       p.sizes,
       fit d,
-      floats-room a.t.config a.t.counts.records a.t.records a.s.now p.room e.0 e.1,
+      floats_room a.t.config a.t.counts.records a.t.records a.s.now p.room e.0 e.1,
       kept_ranges a.t.config a.t.counts.records a.t.records a.s.now p.room e.0 e.1 p.ranges,
     )
 
@@ -71,14 +71,14 @@ returns c =
     let places = sorted a.t.config a.t.counts.records a.t.records a.s.now room e.0 e.1 in (
       rw (
         ap (λ (k : Kept). k.count) e.0,
-        each.predict_each-predicted.ensures.0 ∙ records-predicted a.t.config a.t.counts.records a.t.records a.s.now room e.0 e.1,
+        each.predict_each-predicted.ensures.0 ∙ records_predicted a.t.config a.t.counts.records a.t.records a.s.now room e.0 e.1,
         alive.sort_out-alive.ensures ∙ places Alive,
         initializing.sort_out-initializing.ensures ∙ places Initializing,
         dead.sort_out-dead.ensures ∙ places Dead,
         c.no_numbers-none.ensures,
         c.no_candidates-candidates.ensures,
       ),
-      each.predict_each-predicted.ensures.1 ∙ floats-predicted a.t.config a.t.counts.records a.t.records a.s.now room e.0 e.1,
+      each.predict_each-predicted.ensures.1 ∙ floats_predicted a.t.config a.t.counts.records a.t.records a.s.now room e.0 e.1,
     )
 
 pub predict_table_spec : {M : Type 1} → statement M

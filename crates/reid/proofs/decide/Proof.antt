@@ -1,6 +1,6 @@
 -- `reid::decide` meets its contract: the matching's picks, by their places in the table.
 use borrow.Author.Rules.{rules}
-use Rattle.reid.proofs.Places.{matrix_fits, picks_bounded, places-merges}
+use Rattle.reid.proofs.Places.{matrix_fits, picks_bounded, places_merges}
 use Rattle.reid.proofs.decide.Statement.{statement}
 use Rattle.reid.proofs.decide.Tie as tie
 
@@ -26,7 +26,7 @@ returns : tie.Need-returns
 returns c =
     let r = c.before.before in
     let s = given r in
-    places-merges s.args.t s.args.distances.now s.requires.0 r.candidates_met-rows.ensures c.match_detections_and_objects-picks.ensures c.places_of.ensures
+    places_merges s.args.t s.args.distances.now s.requires.0 r.candidates_met-rows.ensures c.match_detections_and_objects-picks.ensures c.places_of.ensures
 
 pub decide_spec : {M : Type 1} → statement M
 decide_spec = tie.close (tie.spec candidates_met-rows-requires match_detections_and_objects-picks-requires places_of-requires returns)

@@ -2,7 +2,7 @@
 use borrow.Author.Rules.{rules}
 use Rattle.reid.specs.Step.{reid_table}
 use Rattle.reid.proofs.Places.{merges_bounded}
-use Rattle.reid.proofs.Composing.{floats-room, count-after, records-after, floats-after}
+use Rattle.reid.proofs.Composing.{floats_room, count_after, records_after, floats_after}
 use Rattle.reid.proofs.reid_table.Statement.{statement}
 use Rattle.reid.proofs.reid_table.Tie as tie
 
@@ -27,7 +27,7 @@ drop_absorbed-kept-requires c κs =
     let p = (given d).requires in (
       p.sizes,
       p.fit,
-      floats-room a.t a.s.now a.distances.now p d.decide-places.ensures m.merge_each-merged.ensures.0 m.merge_each-merged.ensures.1,
+      floats_room a.t a.s.now a.distances.now p d.decide-places.ensures m.merge_each-merged.ensures.0 m.merge_each-merged.ensures.1,
       (merges_bounded a.t a.distances.now p.meets d.decide-places.ensures).few,
     )
 
@@ -47,11 +47,11 @@ returns c =
     let e = m.merge_each-merged.ensures in
     let kept = k.drop_absorbed-kept.ensures in (
       rw (
-        records-after a.t a.s.now a.distances.now (given d).requires d.decide-places.ensures e.0 e.1 kept.0 kept.1,
-        count-after a.t a.s.now a.distances.now (given d).requires d.decide-places.ensures e.0 e.1 kept.0 kept.1,
+        records_after a.t a.s.now a.distances.now (given d).requires d.decide-places.ensures e.0 e.1 kept.0 kept.1,
+        count_after a.t a.s.now a.distances.now (given d).requires d.decide-places.ensures e.0 e.1 kept.0 kept.1,
         c.no_lists-lists.ensures,
       ),
-      floats-after a.t a.s.now a.distances.now (given d).requires d.decide-places.ensures e.0 e.1 kept.0 kept.1,
+      floats_after a.t a.s.now a.distances.now (given d).requires d.decide-places.ensures e.0 e.1 kept.0 kept.1,
     )
 
 pub reid_table_spec : {M : Type 1} → statement M

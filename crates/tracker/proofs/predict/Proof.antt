@@ -21,14 +21,14 @@ returns-then-due-ne0 c =
     let e = ne_eqb (first_due (predict_checks s.t (length s.storage.now))) 0 (λ z. omega (arith, c.if-due-ne0.true, call.ensures, z)) in
     (rw (call.ensures, e), rw e)
 
-none-due : (c : tie.Else-due-ne0) → let a = c.args in first_due (predict_checks a.t (length a.storage.now)) ≡ 0
-none-due c = omega (arith, c.predict_refusal-due.ensures, c.if-due-ne0.false)
+none_due : (c : tie.Else-due-ne0) → let a = c.args in first_due (predict_checks a.t (length a.storage.now)) ≡ 0
+none_due c = omega (arith, c.predict_refusal-due.ensures, c.if-due-ne0.false)
 
 predict_table-stepped-requires : tie.Need-predict_table-stepped-requires
 predict_table-stepped-requires c κs =
     let s = c in
     let all : length s.args.t.records ≡ 64 = s.well_formed.0.1.1.0.1.0.1 in
-    ready s.args.t (length s.args.storage.now) all (none-due c.before)
+    ready s.args.t (length s.args.storage.now) all (none_due c.before)
 
 shape_of-storage : tie.Need-shape_of-storage
 shape_of-storage c = search rules
@@ -38,7 +38,7 @@ unfolding predict_answer predict_storage
 returns c =
     let call = c.predict_table-stepped in
     let none = c.before.before.before.before in
-    let e = none-due none in
+    let e = none_due none in
     (rw (none.predict_refusal-due.ensures, e, call.ensures.0), rw e call.ensures.1)
 
 pub predict_spec : {M : Type 1} → statement M

@@ -8,7 +8,7 @@ use lib.ListN.{length, get_or}
 use Rattle.laws.proofs.Cells.{cell_below}
 use Rattle.passes.specs.Checks.{Frame, frame}
 use Rattle.matching_step.proofs.PutBack.{Put}
-use Rattle.matching_step.proofs.HitLoop.{passed, Passing, put_first, permanent-most, floats_long, object_in_range, block_inside, put_next}
+use Rattle.matching_step.proofs.HitLoop.{passed, Passing, put_first, permanent_most, floats_long, object_in_range, block_inside, put_next}
 use Rattle.matching_step.proofs.Lending.{fits_without}
 use Rattle.matching_step.proofs.changing.hit_each.Statement.{statement}
 use Rattle.matching_step.proofs.changing.hit_each.Tie as tie
@@ -54,11 +54,11 @@ in_table t =
     let p = (given l.before).requires in
     omega (arith, p.5 l.loop-i.i t.loop-i-test.true, p.1.fit)
 
-in-matrix : (t : tie.In-loop-i invariant-loop-i decreases-loop-i)
+in_matrix : (t : tie.In-loop-i invariant-loop-i decreases-loop-i)
     → let l = t.before.before in
     let a = (given l.before).args in
     get_or a.picks.rows l.loop-i.i 0 * a.counts.records + get_or a.picks.cols l.loop-i.i 0 < length a.distances.now
-in-matrix t =
+in_matrix t =
     let l = t.before.before in
     let p = (given l.before).requires in
     cell_below (p.4 l.loop-i.i t.loop-i-test.true) (p.5 l.loop-i.i t.loop-i-test.true) (omega (arith, p.2))
@@ -70,16 +70,16 @@ bounds-records-k : tie.Need-bounds-records-k invariant-loop-i decreases-loop-i
 bounds-records-k c = in_table c
 
 overflow_mul-distance : tie.Need-overflow_mul-distance invariant-loop-i decreases-loop-i
-overflow_mul-distance c = record { fits = omega (arith, in-matrix c.before, (given c.before.before.before.before).well_formed.1.1.1.1.1.1.1.0) }
+overflow_mul-distance c = record { fits = omega (arith, in_matrix c.before, (given c.before.before.before.before).well_formed.1.1.1.1.1.1.1.0) }
 
 overflow_add-distance : tie.Need-overflow_add-distance invariant-loop-i decreases-loop-i
-overflow_add-distance c = record { fits = omega (arith, in-matrix c.before, (given c.before.before.before.before).well_formed.1.1.1.1.1.1.1.0) }
+overflow_add-distance c = record { fits = omega (arith, in_matrix c.before, (given c.before.before.before.before).well_formed.1.1.1.1.1.1.1.0) }
 
 offset_bounds-distances-d : tie.Need-offset_bounds-distances-d invariant-loop-i decreases-loop-i
-offset_bounds-distances-d c = record { fits = omega (arith, in-matrix c.before, (given c.before.before.before.before).well_formed.1.1.1.1.1.1.1.0) }
+offset_bounds-distances-d c = record { fits = omega (arith, in_matrix c.before, (given c.before.before.before.before).well_formed.1.1.1.1.1.1.1.0) }
 
 bounds-distances-d : tie.Need-bounds-distances-d invariant-loop-i decreases-loop-i
-bounds-distances-d c = in-matrix c.before.before
+bounds-distances-d c = in_matrix c.before.before
 
 hit_at-changed-requires : tie.Need-hit_at-changed-requires invariant-loop-i decreases-loop-i
 hit_at-changed-requires c κs =
@@ -103,7 +103,7 @@ issue-counts-requires : tie.Need-issue-counts-requires invariant-loop-i decrease
 issue-counts-requires c κs =
     let l = c.before.before.before.before.before.before.before.before.before in
     let b = given l.before in
-    omega (arith, permanent-most (passing b) l.loop-i.i l.loop-i.invariant.1, l.loop-i.invariant.0, b.requires.3, b.requires.6)
+    omega (arith, permanent_most (passing b) l.loop-i.i l.loop-i.invariant.1, l.loop-i.invariant.0, b.requires.3, b.requires.6)
 
 overflow_add-i : tie.Need-overflow_add-i invariant-loop-i decreases-loop-i
 overflow_add-i c = search rules

@@ -10,7 +10,7 @@ use Rattle.laws.specs.Turns.{through}
 use Rattle.passes.specs.Checks.{frame}
 use Rattle.passes.specs.Passes.{numbers}
 use Rattle.matching_step.proofs.PutBack.{found, Put, put_found}
-use Rattle.matching_step.proofs.Opening.{Raised, opens, Openable, openable, turn-counts, turn_long, turn-room, turn_next}
+use Rattle.matching_step.proofs.Opening.{Raised, opens, Openable, openable, turn_counts, turn_long, turn_room, turn_next}
 use Rattle.matching_step.proofs.changing.open_each.Statement.{statement}
 use Rattle.matching_step.proofs.changing.open_each.Tie as tie
 
@@ -64,12 +64,12 @@ open_at-changed-requires c κs =
     let most : l.loop-i.i ≤ length (numbers (given l).args.left) = omega (arith, count l) in (
       p.0,
       p.3 l.loop-i.i t.loop-i-test.true,
-      rw (turn_long (ready l) l.loop-i.i most l.loop-i.invariant.1) (turn-room (ready l) l.loop-i.i most l.loop-i.invariant.1 (omega (arith, count l))),
+      rw (turn_long (ready l) l.loop-i.i most l.loop-i.invariant.1) (turn_room (ready l) l.loop-i.i most l.loop-i.invariant.1 (omega (arith, count l))),
     )
 
 -- the counts so far
 so_far : (l : tie.At-loop-i invariant-loop-i decreases-loop-i) → Raised l.loop-i.i (given l).args.counts l.loop-i.counts
-so_far l = turn-counts (ready l) l.loop-i.i (omega (arith, count l)) l.loop-i.invariant.1
+so_far l = turn_counts (ready l) l.loop-i.i (omega (arith, count l)) l.loop-i.invariant.1
 
 offset_bounds-records-k : tie.Need-offset_bounds-records-k invariant-loop-i decreases-loop-i
 offset_bounds-records-k c = let r = so_far c.before.before.before.before.before.before.before in record { fits = omega arith }

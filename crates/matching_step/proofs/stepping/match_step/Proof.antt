@@ -12,7 +12,7 @@ use Rattle.passes.specs.Checks.{Frame, frame}
 use Rattle.matching_step.specs.declared.Stepped.{Stepped}
 use Rattle.matching_step.specs.Step.{State, second_hits, after_first, after_second, after_opening, match_floats}
 use Rattle.matching_step.proofs.Again.{counted_again, holds_again}
-use Rattle.matching_step.proofs.Chain.{first_rows, first-cols, second-rows, second-cols, left_below, stands_after_first, stands_after_second, permanent-first, permanent-second, opened-second, global-second, initializing-second, put_first, put_second, put_third, whole_length, table_is}
+use Rattle.matching_step.proofs.Chain.{first_rows, first_cols, second_rows, second_cols, left_below, stands_after_first, stands_after_second, permanent_first, permanent_second, opened_second, global_second, initializing_second, put_first, put_second, put_third, whole_length, table_is}
 use Rattle.matching_step.proofs.Deciding.{few_hits}
 use Rattle.matching_step.proofs.Lending.{fits_without}
 use Rattle.matching_step.proofs.PutBack.{Put, put_long}
@@ -31,8 +31,8 @@ few b =
     rw b.requires.1 (omega (arith, few_hits b.args.t n (lent b), b.requires.0.decidable.few), omega (arith, few_hits b.args.t n (lent b), b.requires.0.decidable.few))
 
 -- the picks of pass 2 stand as they were listed
-second-listed : (b : tie.Start) → b.args.decided.second ≡ picks_of (picked b.args.decided.second)
-second-listed b = rw (b.requires.1, picked_of (second_hits b.args.t (length b.args.has_scores.now) (lent b)))
+second_listed : (b : tie.Start) → b.args.decided.second ≡ picks_of (picked b.args.decided.second)
+second_listed b = rw (b.requires.1, picked_of (second_hits b.args.t (length b.args.has_scores.now) (lent b)))
 
 -- ---- what each part put back, on what the part before left
 
@@ -46,24 +46,24 @@ first one =
     let b = given one.before.before in
     put_first b.args.t b.args.s.now (lent b) b.requires.0 b.requires.1 one.hit_each-one.ensures.0 one.hit_each-one.ensures.1
 
-abbrev pass-one : tie.After-hit_each-two → tie.After-hit_each-one
-pass-one two = two.before.before.before.before.before.before
+abbrev pass_one : tie.After-hit_each-two → tie.After-hit_each-one
+pass_one two = two.before.before.before.before.before.before
 
-second : (two : tie.After-hit_each-two) → Left (given (pass-one two).before.before) after_second two.hit_each-two.result two.hit_each-two.new.s
+second : (two : tie.After-hit_each-two) → Left (given (pass_one two).before.before) after_second two.hit_each-two.result two.hit_each-two.new.s
 second two =
-    let b = given (pass-one two).before.before in
-    put_second b.args.t b.args.s.now (lent b) b.requires.0 b.requires.1 (first (pass-one two)) two.hit_each-two.ensures.0 two.hit_each-two.ensures.1
+    let b = given (pass_one two).before.before in
+    put_second b.args.t b.args.s.now (lent b) b.requires.0 b.requires.1 (first (pass_one two)) two.hit_each-two.ensures.0 two.hit_each-two.ensures.1
 
-abbrev pass-two : tie.After-open_each-three → tie.After-hit_each-two
-pass-two three = three.before.before.before.before.before.before.before
+abbrev pass_two : tie.After-open_each-three → tie.After-hit_each-two
+pass_two three = three.before.before.before.before.before.before.before
 
 abbrev begun : tie.After-open_each-three → tie.Start
-begun three = given (pass-one (pass-two three)).before.before
+begun three = given (pass_one (pass_two three)).before.before
 
 third : (three : tie.After-open_each-three) → Left (begun three) after_opening three.open_each-three.result three.open_each-three.new.s
 third three =
     let b = begun three in
-    put_third b.args.t b.args.s.now (lent b) b.requires.0 b.requires.1 (second (pass-two three)) three.open_each-three.ensures.0 three.open_each-three.ensures.1
+    put_third b.args.t b.args.s.now (lent b) b.requires.0 b.requires.1 (second (pass_two three)) three.open_each-three.ensures.0 three.open_each-three.ensures.1
 
 hit_each-one-requires : tie.Need-hit_each-one-requires
 hit_each-one-requires c κs =
@@ -75,7 +75,7 @@ hit_each-one-requires c κs =
       r.decidable.distances,
       (few b).0,
       rw b.requires.1 (first_rows b.args.t n (lent b)),
-      rw b.requires.1 (first-cols b.args.t n (lent b)),
+      rw b.requires.1 (first_cols b.args.t n (lent b)),
       omega (arith, r.permanent),
     )
 
@@ -92,15 +92,15 @@ hit_each-two-requires c κs =
       holds_again stands put r.holding,
       rw same r.decidable.distances,
       (few b).1,
-      rw b.requires.1 (second-rows b.args.t n (lent b)),
-      rw (same, b.requires.1) (second-cols b.args.t n (lent b)),
-      rw put.counts (omega (arith, r.permanent, r.decidable.few, few_hits b.args.t n (lent b), permanent-first b.args.t b.args.s.now (lent b) r)),
+      rw b.requires.1 (second_rows b.args.t n (lent b)),
+      rw (same, b.requires.1) (second_cols b.args.t n (lent b)),
+      rw put.counts (omega (arith, r.permanent, r.decidable.few, few_hits b.args.t n (lent b), permanent_first b.args.t b.args.s.now (lent b) r)),
     )
 
 open_each-three-requires : tie.Need-open_each-three-requires
 open_each-three-requires c κs =
     let two = c.before.before.before.before.before.before in
-    let b = given (pass-one two).before.before in
+    let b = given (pass_one two).before.before in
     let r = b.requires.0 in
     let t = b.args.t in
     let s = b.args.s.now in
@@ -113,17 +113,17 @@ open_each-three-requires c κs =
       rw (same, b.requires.1) r.places,
       rw (same, long, b.requires.1) r.blocks,
       rw b.requires.1 (left_below t n (lent b)),
-      rw (put.counts, opened-second t s (lent b) r) (omega (arith, r.opened)),
-      rw put.counts (omega (arith, r.permanent, r.decidable.few, permanent-second t s (lent b) r)),
-      rw (put.counts, global-second t s (lent b) r) (omega (arith, r.global)),
-      rw (put.counts, initializing-second t s (lent b) r) (omega (arith, r.initializing)),
+      rw (put.counts, opened_second t s (lent b) r) (omega (arith, r.opened)),
+      rw put.counts (omega (arith, r.permanent, r.decidable.few, permanent_second t s (lent b) r)),
+      rw (put.counts, global_second t s (lent b) r) (omega (arith, r.global)),
+      rw (put.counts, initializing_second t s (lent b) r) (omega (arith, r.initializing)),
     )
 
 lists_after-lists-requires : tie.Need-lists_after-lists-requires
 lists_after-lists-requires c κs =
     let b = begun c.before.before.before.before in
     let r = b.requires.0 in
-    (r.decidable.fit, r.decidable.alive.0, r.dead.0, (few b).0, r.dead.1, second-listed b)
+    (r.decidable.fit, r.decidable.alive.0, r.dead.0, (few b).0, r.dead.1, second_listed b)
 
 abbrev opened : tie.After-lists_after-lists → tie.After-open_each-three
 opened c = c.before.before.before.before.before

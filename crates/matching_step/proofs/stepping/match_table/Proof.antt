@@ -4,7 +4,7 @@ use native.Mathlib.Omega.{arith}
 use borrow.Author.Rules.{rules}
 use lib.ListN.{length}
 use Rattle.passes.specs.Checks.{Frame, frame, lengths_of}
-use Rattle.matching_step.proofs.Readiness.{decidable, given_due, Picking, askable, pairable, startable, matched-given, matched_decided, matched-accepted}
+use Rattle.matching_step.proofs.Readiness.{decidable, given_due, Picking, askable, pairable, startable, matched_given, matched_decided, matched_accepted}
 use Rattle.matching_step.proofs.stepping.match_table.Statement.{statement}
 use Rattle.matching_step.proofs.stepping.match_table.Tie as tie
 
@@ -26,16 +26,16 @@ refused-requires c κs = search rules
 returns-then-given-ne0 : tie.Need-returns-then-given-ne0
 returns-then-given-ne0 c =
     let b = start c.before.before in
-    matched-given b.args.t b.args.s.now b.args.detections (lent b) b.args.places
+    matched_given b.args.t b.args.s.now b.args.detections (lent b) b.args.places
     c.given_refusal-given.ensures c.if-given-ne0.true c.refused.ensures
 
-none-given : (c : tie.Else-given-ne0) → let b = start c.before in given_due b.args.t b.args.s.now b.args.detections (lent b) b.args.places ≡ 0
-none-given c = sym c.given_refusal-given.ensures ∙ c.if-given-ne0.false
+none_given : (c : tie.Else-given-ne0) → let b = start c.before in given_due b.args.t b.args.s.now b.args.detections (lent b) b.args.places ≡ 0
+none_given c = sym c.given_refusal-given.ensures ∙ c.if-given-ne0.false
 
 decide-decided-requires : tie.Need-decide-decided-requires
 decide-decided-requires c κs =
     let b = start c.before in
-    decidable b.args.t (length b.args.s.now) b.args.period b.args.detections (lengths_of (lent b) b.args.places) (none-given c)
+    decidable b.args.t (length b.args.s.now) b.args.period b.args.detections (lengths_of (lent b) b.args.places) (none_given c)
 
 -- ---- a refusal once they are decided
 
@@ -45,7 +45,7 @@ given c = c.before
 came : (c : tie.After-decide-decided) →
     let b = start (given c).before in
     Picking b.args.t b.args.s.now b.args.detections (lent b) b.args.places c.decide-decided.result
-came c = record { none = none-given (given c); made = c.decide-decided.ensures }
+came c = record { none = none_given (given c); made = c.decide-decided.ensures }
 
 decided_refusal-refusal-requires : tie.Need-decided_refusal-refusal-requires
 decided_refusal-refusal-requires c κs = askable (came c.before.before)
@@ -81,7 +81,7 @@ returns c =
     let call = c.before.before.before in
     let pairs = call.before.before in
     let none = pairs.before.before in
-    matched-accepted (came none.before.before.before.before.before.before) none.decided_refusal-refusal.ensures none.if-refusal-ne0.false
+    matched_accepted (came none.before.before.before.before.before.before) none.decided_refusal-refusal.ensures none.if-refusal-ne0.false
     pairs.pairs_of-pairs.ensures call.match_step-table.ensures.0 call.match_step-table.ensures.1
 
 pub match_table_spec : {M : Type 1} → statement M

@@ -7,7 +7,7 @@ use Rattle.matching.specs.Lent.{picked}
 use Rattle.pairs.specs.declared.Pair.{Pair}
 use Rattle.passes.specs.Checks.{frame}
 use Rattle.matching_step.specs.Step.{pair_of, no_pair}
-use Rattle.matching_step.proofs.Pairing.{in-front, length-picked}
+use Rattle.matching_step.proofs.Pairing.{in_front, length-picked}
 use Rattle.matching_step.proofs.stepping.pairs_of.Statement.{statement}
 use Rattle.matching_step.proofs.stepping.pairs_of.Tie as tie
 
@@ -19,7 +19,7 @@ abbrev ahead : tie.Start → List Pair
 ahead b = map (pair_of b.args.records (frame 0 [] [] [] b.args.distances.now) b.args.n 1) (picked b.args.first)
 
 fronted : (c : tie.After-add_pairs-front) → let b = c in take b.args.first.count c.add_pairs-front.result ≡ ahead b.before.before
-fronted c = in-front 32 no_pair (ahead c.before.before) (length-picked _ c.args.first) c.add_pairs-front.ensures
+fronted c = in_front 32 no_pair (ahead c.before.before) (length-picked _ c.args.first) c.add_pairs-front.ensures
 
 add_pairs-requires : tie.Need-add_pairs-requires
 add_pairs-requires c κs =

@@ -1,7 +1,7 @@
 -- `parts::block::layout_of` meets its contract: no product or sum wraps.
 use native.Mathlib.Omega.{arith}
 use borrow.Author.Rules.{rules}
-use Rattle.parts.proofs.Bounds.{coords-most, width-most, history-most}
+use Rattle.parts.proofs.Bounds.{coords-most, width-most, history_most}
 use Rattle.parts.proofs.block.layout_of.Statement.{statement}
 use Rattle.parts.proofs.block.layout_of.Tie as tie
 
@@ -18,11 +18,11 @@ overflow_add-past_at : tie.Need-overflow_add-past_at
 overflow_add-past_at c = record { fits = omega (arith, coords-most c.args.config c.requires, width-most c.args.config c.requires) }
 
 overflow_mul-result : tie.Need-overflow_mul-result
-overflow_mul-result c = record { fits = omega (arith, history-most c.args.config c.requires) }
+overflow_mul-result c = record { fits = omega (arith, history_most c.args.config c.requires) }
 
 overflow_add-result : tie.Need-overflow_add-result
 overflow_add-result c =
-    record { fits = omega (arith, coords-most c.args.config c.requires, width-most c.args.config c.requires, history-most c.args.config c.requires) }
+    record { fits = omega (arith, coords-most c.args.config c.requires, width-most c.args.config c.requires, history_most c.args.config c.requires) }
 
 returns : tie.Need-returns
 returns c = search rules

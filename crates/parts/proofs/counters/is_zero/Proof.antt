@@ -11,13 +11,13 @@ use Rattle.parts.specs.Life.{is_zero}
 use Rattle.parts.proofs.counters.is_zero.Statement.{statement}
 use Rattle.parts.proofs.counters.is_zero.Tie as tie
 
-bits-of-zero : (z : ℤ) → SFits w32 z → eqb (of_z w32 z) 0 ≡ is_zero z
-bits-of-zero (pos zero) h = refl
-bits-of-zero (pos (suc n)) h = ne_eqb (suc n) 0 (λ e. omega arith)
-bits-of-zero (negsuc n) h = ne_eqb (of_z w32 (negsuc n)) 0 (λ (e : of_z w32 (negsuc n) ≡ 0). omega (arith, h.sfits))
+bits_of_zero : (z : ℤ) → SFits w32 z → eqb (of_z w32 z) 0 ≡ is_zero z
+bits_of_zero (pos zero) h = refl
+bits_of_zero (pos (suc n)) h = ne_eqb (suc n) 0 (λ e. omega arith)
+bits_of_zero (negsuc n) h = ne_eqb (of_z w32 (negsuc n)) 0 (λ (e : of_z w32 (negsuc n) ≡ 0). omega (arith, h.sfits))
 
 returns : tie.Need-returns
-returns c = bits-of-zero c.args.z c.ranges.z
+returns c = bits_of_zero c.args.z c.ranges.z
 
 pub is_zero_spec : {M : Type 1} → statement M
 is_zero_spec = tie.close (tie.spec returns)

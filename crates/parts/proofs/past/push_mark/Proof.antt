@@ -5,7 +5,7 @@ use native.Mathlib.Omega.{arith}
 use borrow.Author.Rules.{rules}
 use borrow.Author.Tests.{lt-ltb, le-ltb}
 use lib.ListN.{length}
-use Rattle.laws.proofs.Pasting.{paste-one}
+use Rattle.laws.proofs.Pasting.{paste_one}
 use Rattle.parts.proofs.past.push_mark.Statement.{statement}
 use Rattle.parts.proofs.past.push_mark.Tie as tie
 
@@ -20,7 +20,7 @@ returns-then-count-most c =
     let a = c.args in
     let n : length a.past ≡ 8 = search rules in
     let place : 0 + min a.count (a.most - 1) * 1 ≡ a.count = omega arith in
-    rw (lt-ltb a.count a.most (omega arith), place) (paste-one a.past a.count a.entry (omega arith))
+    rw (lt-ltb a.count a.most (omega arith), place) (paste_one a.past a.count a.entry (omega arith))
 
 shifted-next-requires : tie.Need-shifted-next-requires
 shifted-next-requires c κs = search rules
@@ -41,7 +41,7 @@ returns c =
     let place : 0 + min a.count (a.most - 1) * 1 ≡ a.most - 1 = omega arith in
     let moved : (a.most - 1) * 1 ≡ a.most - 1 = omega arith in
     rw (le-ltb a.count a.most (omega arith), place, moved, ← c.shifted-next.ensures)
-    (paste-one c.shifted-next.result (a.most - 1) a.entry (omega arith))
+    (paste_one c.shifted-next.result (a.most - 1) a.entry (omega arith))
 
 pub push_mark_spec : {M : Type 1} → statement M
 push_mark_spec =

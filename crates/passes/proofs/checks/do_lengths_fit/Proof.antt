@@ -19,7 +19,7 @@ overflow_mul-points c =
 overflow_mul-scores : tie.Need-overflow_mul-scores
 overflow_mul-scores c =
     let s = c in
-    record { fits = omega (arith, mul-le-mul s.requires.2 s.requires.0.points-most) }
+    record { fits = omega (arith, mul-le-mul s.requires.2 s.requires.0.points_most) }
 
 overflow_mul-distances : tie.Need-overflow_mul-distances
 overflow_mul-distances c =

@@ -43,11 +43,11 @@ abbrev test : tie.Start invariant-loop-i decreases-loop-i → ℕ → Bool
 test s = among s.args.wanted (take s.args.m s.args.list.now)
 
 -- `among` is how the code compares
-among-asked : (wanted b : Bool) → cond wanted b (not b) ≡ beq b wanted
-among-asked true true = refl
-among-asked true false = refl
-among-asked false true = refl
-among-asked false false = refl
+among_asked : (wanted b : Bool) → cond wanted b (not b) ≡ beq b wanted
+among_asked true true = refl
+among_asked true false = refl
+among_asked false true = refl
+among_asked false false = refl
 
 -- what the call says of the number that the code read
 answered : (c : tie.After-is_among invariant-loop-i decreases-loop-i) →
@@ -55,7 +55,7 @@ answered : (c : tie.After-is_among invariant-loop-i decreases-loop-i) →
     test s (get_or s.args.of.at c.loop-i.i 0) ≡ beq c.is_among.result s.args.wanted
 answered c =
     let s = c in
-    rw c.is_among.ensures (among-asked s.args.wanted (holds (get_or s.args.of.at c.loop-i.i 0) (take s.args.m s.args.list.now)))
+    rw c.is_among.ensures (among_asked s.args.wanted (holds (get_or s.args.of.at c.loop-i.i 0) (take s.args.m s.args.list.now)))
 
 -- as many were looked at as turns are done
 looked : (s : tie.Start invariant-loop-i decreases-loop-i) (i : ℕ) → i ≤ 64 → length (take i s.args.of.at) ≡ i

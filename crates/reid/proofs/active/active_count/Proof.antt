@@ -7,7 +7,7 @@ use lib.ListN.{length, length-map}
 use Rattle.laws.specs.Lists.{keep}
 use Rattle.table.proofs.Reading.{blank}
 use Rattle.reid.specs.Step.{active_of}
-use Rattle.reid.proofs.Listing.{active-few, one_more, no_more}
+use Rattle.reid.proofs.Listing.{active_few, one_more, no_more}
 use Rattle.reid.proofs.active.active_count.Statement.{statement}
 use Rattle.reid.proofs.active.active_count.Tie as tie
 use Rattle.reid.proofs.active.active_count.Lts.{then-is_active, else-is_active}
@@ -34,7 +34,7 @@ is_active-requires c κs = search rules
 overflow_add-count : tie.Need-overflow_add-count invariant-loop-i decreases-loop-i
 overflow_add-count c =
     let l = c in
-    record { fits = omega (arith, simp length-map at (active-few l.loop-i.i l.args.records)) }
+    record { fits = omega (arith, simp length-map at (active_few l.loop-i.i l.args.records)) }
 
 overflow_add-i : tie.Need-overflow_add-i invariant-loop-i decreases-loop-i
 overflow_add-i c = search rules

@@ -7,7 +7,7 @@ use lib.ListN.{length}
 use Rattle.laws.specs.Lists.{keep}
 use Rattle.table.proofs.Reading.{blank}
 use Rattle.reid.specs.Step.{active_ids}
-use Rattle.reid.proofs.Listing.{active-few, Listed, listed_long, listed_more, listed_same}
+use Rattle.reid.proofs.Listing.{active_few, Listed, listed_long, listed_more, listed_same}
 use Rattle.reid.proofs.active.list_active.Statement.{statement}
 use Rattle.reid.proofs.active.list_active.Tie as tie
 use Rattle.reid.proofs.active.list_active.Lts.{then-is_active, else-is_active}
@@ -36,7 +36,7 @@ room : (c : tie.In-loop-i invariant-loop-i decreases-loop-i) → (c.loop-i.count
 room c =
     let l = c in
     let list₀ = l.args.list.now in
-    let few = active-few l.loop-i.i l.args.records in
+    let few = active_few l.loop-i.i l.args.records in
     let long = listed_long l.args.records l.loop-i.i list₀ l.loop-i.invariant.1 (omega arith) in
     (omega arith, omega arith)
 
@@ -63,7 +63,7 @@ loop-i-preserved c =
     let list₀ = l.args.list.now in
     let h : l.loop-i.i < length records = omega (arith, l.well_formed.0.1.0.1) in
     let told = sym c.is_active.ensures in
-    let few : length (active_ids l.loop-i.i records) < length list₀ = omega (arith, active-few l.loop-i.i records) in
+    let few : length (active_ids l.loop-i.i records) < length list₀ = omega (arith, active_few l.loop-i.i records) in
     elim c.if-is_active.branch [
       | then-is_active w ↦
           let next = listed_more records l.loop-i.i blank h list₀ l.loop-i.invariant.1 (told ∙ w.if-is_active.true) few in
@@ -77,7 +77,7 @@ shape_of-list : tie.Need-shape_of-list invariant-loop-i decreases-loop-i
 shape_of-list c =
     let l = c in
     let a = l.args in
-    listed_long a.records l.loop-i.i a.list.now l.loop-i.invariant.1 (omega (arith, active-few l.loop-i.i a.records))
+    listed_long a.records l.loop-i.i a.list.now l.loop-i.invariant.1 (omega (arith, active_few l.loop-i.i a.records))
 
 returns : tie.Need-returns invariant-loop-i decreases-loop-i
 returns c =

@@ -11,7 +11,7 @@ use lib.Dec.{eqb}
 use lib.ListN.{drop}
 use Rattle.table.specs.declared.Phase.TheVariants.{Reid}
 use Rattle.table.specs.Refusals.{Check, first_due, step_checks}
-use Rattle.table.proofs.Due.{after-step, none-due}
+use Rattle.table.proofs.Due.{after_step, none_due}
 use Rattle.table.proofs.Facts.{WholeFacts, whole_facts}
 use Rattle.reid.specs.Step.{distances_asked, reid_checks}
 use Rattle.reid.proofs.Places.{met_most}
@@ -25,20 +25,20 @@ abbrev asked : tie.Start → List Check
 asked s = reid_checks s.args.t s.args.floats s.args.distances s.args.places
 
 -- the step's refusal, or the first of 10 and 11
-then-lent : (r : tie.After-step_refusal-first) →
+then_lent : (r : tie.After-step_refusal-first) →
     let checks = asked r.before.before.before.before.before in
     let first = r.step_refusal-first.result in
     first_due checks ≡ cond (eqb first 0) (first_due (drop 3 checks)) first
-then-lent r =
+then_lent r =
     let s = r.before.before.before.before.before in
-    rw r.step_refusal-first.ensures (after-step Reid s.args.t s.args.floats (drop 3 (asked s)))
+    rw r.step_refusal-first.ensures (after_step Reid s.args.t s.args.floats (drop 3 (asked s)))
 
 returns-then-first-ne0 : tie.Need-returns-then-first-ne0
-returns-then-first-ne0 c = sym (rw (ne_eqb _ 0 c.if-first-ne0.true) at (then-lent c.before))
+returns-then-first-ne0 c = sym (rw (ne_eqb _ 0 c.if-first-ne0.true) at (then_lent c.before))
 
 -- the checks that passed
-step-passed : (c : tie.Else-first-ne0) → let checks = asked c.before.before.before.before.before.before in first_due checks ≡ first_due (drop 3 checks)
-step-passed c = rw c.if-first-ne0.false at (then-lent c.before)
+step_passed : (c : tie.Else-first-ne0) → let checks = asked c.before.before.before.before.before.before in first_due checks ≡ first_due (drop 3 checks)
+step_passed c = rw c.if-first-ne0.false at (then_lent c.before)
 
 candidates_met-requires : tie.Need-candidates_met-requires
 candidates_met-requires c κs = search rules
@@ -47,7 +47,7 @@ candidates_met-requires c κs = search rules
 facts : (c : tie.Else-first-ne0) → WholeFacts c.args.t
 facts c =
     let a = c.args in
-    let none = none-due (step_checks Reid a.t a.floats) (omega arith, (omega arith, (omega arith, tt))) (sym c.step_refusal-first.ensures ∙ c.if-first-ne0.false) in
+    let none = none_due (step_checks Reid a.t a.floats) (omega arith, (omega arith, (omega arith, tt))) (sym c.step_refusal-first.ensures ∙ c.if-first-ne0.false) in
     whole_facts a.t (not-false _ none.0)
 
 overflow_mul-candidates_met : tie.Need-overflow_mul-candidates_met
@@ -66,26 +66,26 @@ returns-then-distances-candidates_met : tie.Need-returns-then-distances-candidat
 unfolding first_due
 returns-then-distances-candidates_met c =
     let e = c.before.before.before in
-    sym (step-passed e ∙ rw (ne_eqb _ _ (λ q. c.if-distances-candidates_met.true (q ∙ sym (same_asked c.before)))))
+    sym (step_passed e ∙ rw (ne_eqb _ _ (λ q. c.if-distances-candidates_met.true (q ∙ sym (same_asked c.before)))))
 
 abbrev begun : tie.Else-distances-candidates_met → tie.Start
 begun c = c.before.before.before.before.before.before.before.before.before
 
-lengths-passed : (c : tie.Else-distances-candidates_met) → let checks = asked (begun c) in first_due checks ≡ first_due (drop 4 checks)
+lengths_passed : (c : tie.Else-distances-candidates_met) → let checks = asked (begun c) in first_due checks ≡ first_due (drop 4 checks)
 unfolding first_due
-lengths-passed c = step-passed c.before.before.before ∙ rw (eq-eqb _ _ (c.if-distances-candidates_met.false ∙ same_asked c.before))
+lengths_passed c = step_passed c.before.before.before ∙ rw (eq-eqb _ _ (c.if-distances-candidates_met.false ∙ same_asked c.before))
 
 returns-then-places-config : tie.Need-returns-then-places-config
 unfolding first_due
 returns-then-places-config c =
     let a = (begun c.before.before).args in
-    sym (lengths-passed c.before.before ∙ rw (lt-ltb a.places a.t.config.capacity (omega (arith, c.if-places-config.true))))
+    sym (lengths_passed c.before.before ∙ rw (lt-ltb a.places a.t.config.capacity (omega (arith, c.if-places-config.true))))
 
 returns : tie.Need-returns
 unfolding first_due
 returns c =
     let a = (begun c.before.before).args in
-    sym (lengths-passed c.before.before ∙ rw (le-ltb a.places a.t.config.capacity (omega (arith, c.if-places-config.false))))
+    sym (lengths_passed c.before.before ∙ rw (le-ltb a.places a.t.config.capacity (omega (arith, c.if-places-config.false))))
 
 pub reid_refusal_spec : {M : Type 1} → statement M
 reid_refusal_spec =

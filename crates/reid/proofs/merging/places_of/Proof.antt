@@ -6,19 +6,19 @@ use native.Mathlib.Omega.{arith}
 use borrow.Author.Rules.{rules}
 use lib.ListN.{get_or}
 use Rattle.laws.specs.Lists.{below, padded}
-use Rattle.laws.proofs.Growing.{filled-below}
+use Rattle.laws.proofs.Growing.{filled_below}
 use Rattle.reid.proofs.Places.{row_at, col_at, all_placed}
 use Rattle.reid.proofs.merging.places_of.Statement.{statement}
 use Rattle.reid.proofs.merging.places_of.Tie as tie
 
 abbrev invariant-loop-i : tie.invariant-loop-i
-invariant-loop-i picks from to picked-rows picked-cols rows₀ cols₀ i₀ rows cols i =
+invariant-loop-i picks from to picked_rows picked_cols rows₀ cols₀ i₀ rows cols i =
     (i ≤ picks.count)
-    × (rows ≡ padded 32 (map (λ k. get_or from (get_or picked-rows k 0) 0) (below i)))
-    × (cols ≡ padded 32 (map (λ k. get_or to (get_or picked-cols k 0) 0) (below i)))
+    × (rows ≡ padded 32 (map (λ k. get_or from (get_or picked_rows k 0) 0) (below i)))
+    × (cols ≡ padded 32 (map (λ k. get_or to (get_or picked_cols k 0) 0) (below i)))
 
 abbrev decreases-loop-i : tie.decreases-loop-i
-decreases-loop-i picks from to picked-rows picked-cols rows₀ cols₀ i₀ rows cols i = picks.count - i
+decreases-loop-i picks from to picked_rows picked_cols rows₀ cols₀ i₀ rows cols i = picks.count - i
 
 abbrev given : tie.At-loop-i invariant-loop-i decreases-loop-i → tie.Start invariant-loop-i decreases-loop-i
 given l = l.before.before.before.before.before
@@ -75,8 +75,8 @@ loop-i-preserved c =
     let a = (given l).args in
     let few = (given l).requires.0 in (
       search rules,
-      rw l.loop-i.invariant.1 (filled-below 32 0 (row_at a.candidates a.old a.picks) l.loop-i.i (omega arith)),
-      rw l.loop-i.invariant.2 (filled-below 32 0 (col_at a.candidates a.old a.picks) l.loop-i.i (omega arith)),
+      rw l.loop-i.invariant.1 (filled_below 32 0 (row_at a.candidates a.old a.picks) l.loop-i.i (omega arith)),
+      rw l.loop-i.invariant.2 (filled_below 32 0 (col_at a.candidates a.old a.picks) l.loop-i.i (omega arith)),
     )
 
 returns : tie.Need-returns invariant-loop-i decreases-loop-i

@@ -7,10 +7,10 @@ use Rattle.table.specs.Making.{settled, made}
 use Rattle.table.proofs.making.make.Statement.{statement}
 use Rattle.table.proofs.making.make.Tie as tie
 
-refusal-of : (c : tie.After-making_refusal-refusal) →
+refusal_of_lem : (c : tie.After-making_refusal-refusal) →
     let a = c.args in
     first_due (making_checks (settled a.config) a.floats) ≡ c.making_refusal-refusal.result
-refusal-of c = sym (rw c.settle-settings.ensures at c.making_refusal-refusal.ensures)
+refusal_of_lem c = sym (rw c.settle-settings.ensures at c.making_refusal-refusal.ensures)
 
 settle-settings-requires : tie.Need-settle-settings-requires
 settle-settings-requires c κs = search rules
@@ -28,11 +28,11 @@ returns-then-refusal-eq0 : tie.Need-returns-then-refusal-eq0
 unfolding made
 returns-then-refusal-eq0 c =
     let fresh = c.before.before in
-    rw (refusal-of fresh.before, eq-eqb _ 0 c.if-refusal-eq0.true, ← fresh.settle-settings.ensures, ← fresh.fresh_table-fresh.ensures)
+    rw (refusal_of_lem fresh.before, eq-eqb _ 0 c.if-refusal-eq0.true, ← fresh.settle-settings.ensures, ← fresh.fresh_table-fresh.ensures)
 
 returns : tie.Need-returns
 unfolding made
-returns c = rw (refusal-of c.before.before.before, ne_eqb _ 0 c.if-refusal-eq0.false, ← c.zero_table-zero.ensures)
+returns c = rw (refusal_of_lem c.before.before.before, ne_eqb _ 0 c.if-refusal-eq0.false, ← c.zero_table-zero.ensures)
 
 pub make_spec : {M : Type 1} → statement M
 make_spec =

@@ -12,11 +12,11 @@ use Rattle.table.proofs.making.making_refusal.Tie as tie
 not_negative : (c : tie.Else-is_delay_negative) → delay_negative c.args.config ≡ false
 not_negative c = sym c.is_delay_negative.ensures ∙ c.if-is_delay_negative.false
 
-not-long : (c : tie.Else-is_delay_too_long) → delay_too_long c.args.config ≡ false
-not-long c = sym c.is_delay_too_long.ensures ∙ c.if-is_delay_too_long.false
+not_long : (c : tie.Else-is_delay_too_long) → delay_too_long c.args.config ≡ false
+not_long c = sym c.is_delay_too_long.ensures ∙ c.if-is_delay_too_long.false
 
-in-range : (c : tie.Else-not-are_settings_in_range) → settings_in_range c.args.config ≡ true
-in-range c = sym c.are_settings_in_range.ensures ∙ not-false _ c.if-not-are_settings_in_range.false-raw
+in_range : (c : tie.Else-not-are_settings_in_range) → settings_in_range c.args.config ≡ true
+in_range c = sym c.are_settings_in_range.ensures ∙ not-false _ c.if-not-are_settings_in_range.false-raw
 
 is_delay_negative-requires : tie.Need-is_delay_negative-requires
 is_delay_negative-requires c κs = search rules
@@ -37,18 +37,18 @@ are_settings_in_range-requires c κs = search rules
 
 returns-then-not-are_settings_in_range : tie.Need-returns-then-not-are_settings_in_range
 unfolding first_due
-returns-then-not-are_settings_in_range c = rw (not_negative c.before.before.before.before, not-long c.before.before, sym c.are_settings_in_range.ensures ∙ not-true _ c.if-not-are_settings_in_range.true-raw)
+returns-then-not-are_settings_in_range c = rw (not_negative c.before.before.before.before, not_long c.before.before, sym c.are_settings_in_range.ensures ∙ not-true _ c.if-not-are_settings_in_range.true-raw)
 
 storage_need-requires : tie.Need-storage_need-requires
-storage_need-requires c κs = in-range c
+storage_need-requires c κs = in_range c
 
 returns-then-floats-storage_need : tie.Need-returns-then-floats-storage_need
 unfolding first_due
-returns-then-floats-storage_need c = rw (not_negative c.before.before.before.before.before.before, not-long c.before.before.before.before, in-range c.before.before, lt-ltb _ _ (rw c.storage_need.ensures at c.if-floats-storage_need.true))
+returns-then-floats-storage_need c = rw (not_negative c.before.before.before.before.before.before, not_long c.before.before.before.before, in_range c.before.before, lt-ltb _ _ (rw c.storage_need.ensures at c.if-floats-storage_need.true))
 
 returns : tie.Need-returns
 unfolding first_due
-returns c = rw (not_negative c.before.before.before.before.before.before, not-long c.before.before.before.before, in-range c.before.before, le-ltb _ _ (rw c.storage_need.ensures at c.if-floats-storage_need.false))
+returns c = rw (not_negative c.before.before.before.before.before.before, not_long c.before.before.before.before, in_range c.before.before, le-ltb _ _ (rw c.storage_need.ensures at c.if-floats-storage_need.false))
 
 pub making_refusal_spec : {M : Type 1} → statement M
 making_refusal_spec =

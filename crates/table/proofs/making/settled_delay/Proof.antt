@@ -12,13 +12,13 @@ use Rattle.table.specs.Making.{settled_delay}
 use Rattle.table.proofs.making.settled_delay.Statement.{statement}
 use Rattle.table.proofs.making.settled_delay.Tie as tie
 
-mag-neg : (r : ℕ) → mag (neg_ℤ (pos r)) ≤ r
-mag-neg zero = omega arith
-mag-neg (suc r) = omega arith
+mag_neg : (r : ℕ) → mag (neg_ℤ (pos r)) ≤ r
+mag_neg zero = omega arith
+mag_neg (suc r) = omega arith
 
-half-fits : (z : ℤ) → SFits w32 z → SFits w32 (quot_z z (pos 2))
-half-fits (pos a) h = fits32 (omega (arith, h.sfits))
-half-fits (negsuc a) h = fits32 (omega (arith, h.sfits, mag-neg (suc a / 2)))
+half_fits : (z : ℤ) → SFits w32 z → SFits w32 (quot_z z (pos 2))
+half_fits (pos a) h = fits32 (omega (arith, h.sfits))
+half_fits (negsuc a) h = fits32 (omega (arith, h.sfits, mag_neg (suc a / 2)))
 
 -- only -1 has the bits of -1
 stays : (maximum z : ℤ) → (of_z w32 z ≡ 4294967295 → ⊥) → z ≡ settled_delay maximum z
@@ -27,13 +27,13 @@ stays maximum (negsuc zero) h = absurd (h refl)
 stays maximum (negsuc (suc d)) h = refl
 
 nonzero_div-result : tie.Need-nonzero_div-result
-nonzero_div-result c = (omega arith, rw (to_z-of_z c.ranges.maximum) (half-fits c.args.maximum c.ranges.maximum))
+nonzero_div-result c = (omega arith, rw (to_z-of_z c.ranges.maximum) (half_fits c.args.maximum c.ranges.maximum))
 
 returns-then-delay-eqminus1 : tie.Need-returns-then-delay-eqminus1
 returns-then-delay-eqminus1 c =
     let s = c in
     let e : s.args.delay ≡ negsuc 0 = sym (to_z-of_z s.ranges.delay) ∙ ap (to_z w32) c.if-delay-eqminus1.true in
-    rw (to_z-of_z s.ranges.maximum, to_z-of_z (half-fits s.args.maximum s.ranges.maximum), e)
+    rw (to_z-of_z s.ranges.maximum, to_z-of_z (half_fits s.args.maximum s.ranges.maximum), e)
 
 returns : tie.Need-returns
 returns c = rw (to_z-of_z c.ranges.delay) (stays c.args.maximum c.args.delay c.if-delay-eqminus1.false)

@@ -26,7 +26,7 @@ unfolding first_due
 returns-then-not-is_whole c = rw (sym c.is_whole.ensures ∙ not-true _ c.if-not-is_whole.true-raw)
 
 storage_need-requires : tie.Need-storage_need-requires
-storage_need-requires c κs = (whole_facts c.args.t (whole c)).in-range
+storage_need-requires c κs = (whole_facts c.args.t (whole c)).in_range
 
 returns-then-floats-storage_need : tie.Need-returns-then-floats-storage_need
 unfolding first_due

@@ -3,7 +3,7 @@ use Prim.Native.Nat.{◌≤◌}
 use native.Mathlib.Nat.{mul-le-mul}
 use native.Mathlib.Omega.{arith}
 use Rattle.table.specs.Refusals.{storage_need}
-use Rattle.table.proofs.Facts.{settings_facts, sizes_of, block-most}
+use Rattle.table.proofs.Facts.{settings_facts, sizes_of, block_most}
 use Rattle.table.proofs.making.storage_need.Statement.{statement}
 use Rattle.table.proofs.making.storage_need.Tie as tie
 
@@ -13,7 +13,7 @@ layout_of-at-requires c κs = sizes_of c.args.config c.requires
 overflow_mul-result : tie.Need-overflow_mul-result
 overflow_mul-result c =
     let s = c in
-    let size : c.layout_of-at.result.size ≤ 864 = rw c.layout_of-at.ensures (block-most s.args.config (sizes_of s.args.config s.requires)) in
+    let size : c.layout_of-at.result.size ≤ 864 = rw c.layout_of-at.ensures (block_most s.args.config (sizes_of s.args.config s.requires)) in
     record { fits = omega (arith, mul-le-mul (settings_facts s.args.config s.requires).capacity.1 size) }
 
 returns : tie.Need-returns

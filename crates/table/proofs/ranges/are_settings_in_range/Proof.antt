@@ -37,8 +37,8 @@ both-requires-5 c κs = search rules
 both-requires-6 : tie.Need-both-requires-6
 both-requires-6 c κs = search rules
 
-maximum-fits : (c : tie.Start) → SFits w32 c.args.config.hit_counter_max
-maximum-fits c = search rules
+maximum_fits : (c : tie.Start) → SFits w32 c.args.config.hit_counter_max
+maximum_fits c = search rules
 
 returns : tie.Need-returns
 unfolding settings_in_range
@@ -56,7 +56,7 @@ returns c =
       between.is_between-capacity.ensures,
       between.is_between-dims.ensures,
       between.is_between-points.ensures,
-      to_z-of_z (maximum-fits between.before.before.before),
+      to_z-of_z (maximum_fits between.before.before.before),
     )
 
 pub are_settings_in_range_spec : {M : Type 1} → statement M

@@ -20,8 +20,8 @@ returns-in-Absent : tie.Need-returns-in-Absent
 unfolding reid_between
 returns-in-Absent c = rw c.in-Absent.is
 
-present-fits : (c : tie.After-is_between_signed) → SFits w32 c.in-Present.z
-present-fits c = search rules
+present_fits : (c : tie.After-is_between_signed) → SFits w32 c.in-Present.z
+present_fits c = search rules
 
 returns-in-Present : tie.Need-returns-in-Present
 unfolding reid_between
@@ -30,7 +30,7 @@ returns-in-Present c =
       c.is_between_signed.ensures,
       to_z-of_z c.ranges.low,
       to_z-of_z c.ranges.high,
-      to_z-of_z (present-fits c),
+      to_z-of_z (present_fits c),
       c.in-Present.is,
     )
 

@@ -6,11 +6,11 @@ use mir.Facts.{to_z-of_z}
 use Rattle.table.proofs.ranges.is_delay_negative.Statement.{statement}
 use Rattle.table.proofs.ranges.is_delay_negative.Tie as tie
 
-delay-fits : (c : tie.Start) → SFits w32 c.args.config.initialization_delay
-delay-fits c = search rules
+delay_fits : (c : tie.Start) → SFits w32 c.args.config.initialization_delay
+delay_fits c = search rules
 
 returns : tie.Need-returns
-returns c = rw (to_z-of_z (delay-fits c.before.before))
+returns c = rw (to_z-of_z (delay_fits c.before.before))
 
 pub is_delay_negative_spec : {M : Type 1} → statement M
 is_delay_negative_spec = tie.close (tie.spec returns)

@@ -6,14 +6,14 @@ use mir.Facts.{to_z-of_z}
 use Rattle.table.proofs.ranges.is_delay_too_long.Statement.{statement}
 use Rattle.table.proofs.ranges.is_delay_too_long.Tie as tie
 
-maximum-fits : (c : tie.Start) → SFits w32 c.args.config.hit_counter_max
-maximum-fits c = search rules
+maximum_fits : (c : tie.Start) → SFits w32 c.args.config.hit_counter_max
+maximum_fits c = search rules
 
-delay-fits : (c : tie.Start) → SFits w32 c.args.config.initialization_delay
-delay-fits c = search rules
+delay_fits : (c : tie.Start) → SFits w32 c.args.config.initialization_delay
+delay_fits c = search rules
 
 returns : tie.Need-returns
-returns c = rw (to_z-of_z (maximum-fits c.before.before), to_z-of_z (delay-fits c.before.before))
+returns c = rw (to_z-of_z (maximum_fits c.before.before), to_z-of_z (delay_fits c.before.before))
 
 pub is_delay_too_long_spec : {M : Type 1} → statement M
 is_delay_too_long_spec = tie.close (tie.spec returns)

@@ -45,14 +45,14 @@ is_between_signed-requires : tie.Need-is_between_signed-requires invariant-loop-
 is_between_signed-requires c κs = search rules
 
 -- a signed number of an entry is what an i32 holds of it
-age-fits : (c : tie.After-struct_told-1 invariant-loop-i decreases-loop-i)
+age_fits : (c : tie.After-struct_told-1 invariant-loop-i decreases-loop-i)
     → SFits w32 (get_or c.args.past c.loop-i.i none).age
-age-fits c = search rules
+age_fits c = search rules
 
 looked : (c : tie.After-is_between_signed invariant-loop-i decreases-loop-i) →
     let at = c in
     outside (to_z w32 (of_z w32 at.args.frames)) (get_or at.args.past at.loop-i.i none) ≡ not c.is_between_signed.result
-looked c = rw (c.is_between_signed.ensures, to_z-of_z (age-fits c.before))
+looked c = rw (c.is_between_signed.ensures, to_z-of_z (age_fits c.before))
 
 returns-then-not-is_between_signed : tie.Need-returns-then-not-is_between_signed invariant-loop-i decreases-loop-i
 unfolding ages_whole

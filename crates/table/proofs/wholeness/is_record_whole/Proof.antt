@@ -59,11 +59,11 @@ both-requires-4 c κs = search rules
 both-requires-5 : tie.Need-both-requires-5
 both-requires-5 c κs = search rules
 
-hit-fits : (c : tie.Start) → SFits w32 c.args.o.life.hit_counter
-hit-fits c = search rules
+hit_fits : (c : tie.Start) → SFits w32 c.args.o.life.hit_counter
+hit_fits c = search rules
 
-frames-kept : (c : tie.Start) → to_z w32 c.args.frames ≡ pos c.args.frames
-frames-kept c = to_z_pos w32 (omega arith)
+frames_kept : (c : tie.Start) → to_z w32 c.args.frames ≡ pos c.args.frames
+frames_kept c = to_z_pos w32 (omega arith)
 
 returns : tie.Need-returns
 unfolding record_whole
@@ -85,8 +85,8 @@ returns c =
       counter.are_points_whole-points.ensures,
       hit.is_between_signed-hit.ensures,
       le-leb _ _ asked.if-config-n.false,
-      to_z-of_z (hit-fits start),
-      frames-kept start,
+      to_z-of_z (hit_fits start),
+      frames_kept start,
     )
 
 pub is_record_whole_spec : {M : Type 1} → statement M

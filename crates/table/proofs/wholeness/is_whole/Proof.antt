@@ -12,13 +12,13 @@ use Rattle.table.proofs.wholeness.is_whole.Tie as tie
 are_settings_whole-requires : tie.Need-are_settings_whole-requires
 are_settings_whole-requires c κs = search rules
 
-settings-pass : (c : tie.Else-not-are_settings_whole) → settings_whole c.args.t.config ≡ true
-settings-pass c = sym c.are_settings_whole.ensures ∙ not-false _ c.if-not-are_settings_whole.false-raw
+settings_pass : (c : tie.Else-not-are_settings_whole) → settings_whole c.args.t.config ≡ true
+settings_pass c = sym c.are_settings_whole.ensures ∙ not-false _ c.if-not-are_settings_whole.false-raw
 
-counts-pass : (c : tie.Else-not-are_counts_whole) →
+counts_pass : (c : tie.Else-not-are_counts_whole) →
     let t = c.args.t in
     counts_whole t.config t.counts ≡ true
-counts-pass c = sym c.are_counts_whole.ensures ∙ not-false _ c.if-not-are_counts_whole.false-raw
+counts_pass c = sym c.are_counts_whole.ensures ∙ not-false _ c.if-not-are_counts_whole.false-raw
 
 returns-then-not-are_settings_whole : tie.Need-returns-then-not-are_settings_whole
 unfolding whole_table
@@ -29,18 +29,18 @@ are_counts_whole-requires c κs = search rules
 
 returns-then-not-are_counts_whole : tie.Need-returns-then-not-are_counts_whole
 unfolding whole_table
-returns-then-not-are_counts_whole c = rw (settings-pass c.before.before, sym c.are_counts_whole.ensures ∙ not-true _ c.if-not-are_counts_whole.true-raw)
+returns-then-not-are_counts_whole c = rw (settings_pass c.before.before, sym c.are_counts_whole.ensures ∙ not-true _ c.if-not-are_counts_whole.true-raw)
 
 are_records_whole-requires : tie.Need-are_records_whole-requires
 are_records_whole-requires c κs =
     let t = c.args.t in
-    let settings = settings_facts t.config (settings_whole_lem t.config (settings-pass c.before.before)).0 in
-    let counts = counts_facts t.config t.counts (counts-pass c) in
+    let settings = settings_facts t.config (settings_whole_lem t.config (settings_pass c.before.before)).0 in
+    let counts = counts_facts t.config t.counts (counts_pass c) in
     (settings.points.1, settings.history, counts.frames, omega (arith, settings.capacity.1, counts.records))
 
 returns-then-not-are_records_whole : tie.Need-returns-then-not-are_records_whole
 unfolding whole_table
-returns-then-not-are_records_whole c = rw (settings-pass c.before.before.before.before, counts-pass c.before.before, sym c.are_records_whole.ensures ∙ not-true _ c.if-not-are_records_whole.true-raw)
+returns-then-not-are_records_whole c = rw (settings_pass c.before.before.before.before, counts_pass c.before.before, sym c.are_records_whole.ensures ∙ not-true _ c.if-not-are_records_whole.true-raw)
 
 are_lists_whole-requires : tie.Need-are_lists_whole-requires
 are_lists_whole-requires c κs = search rules
@@ -51,8 +51,8 @@ returns c =
     let passed = c.before in
     rw (
       c.are_lists_whole.ensures,
-      settings-pass passed.before.before.before.before,
-      counts-pass passed.before.before,
+      settings_pass passed.before.before.before.before,
+      counts_pass passed.before.before,
       sym passed.are_records_whole.ensures ∙ not-false _ passed.if-not-are_records_whole.false-raw,
     )
 

@@ -3,7 +3,7 @@ use mathlib.Core.Path.{◌≡◌, ◌∙◌}
 use borrow.Author.Rules.{rules}
 use Rattle.parts.specs.Life.{promotes}
 use Rattle.tracked_object.specs.Object.{object_hit}
-use Rattle.parts.proofs.LifeLaws.{issued-hit}
+use Rattle.parts.proofs.LifeLaws.{issued_hit}
 use Rattle.tracked_object.proofs.hitting.hit.Statement.{statement}
 use Rattle.tracked_object.proofs.hitting.hit.Tie as tie
 
@@ -27,7 +27,7 @@ issued c =
     let a = c.args in
     c.both.ensures
     ∙ rw c.hit_record-next.ensures
-    (issued-hit a.period a.config.hit_counter_max a.config.initialization_delay a.config.reid_hit_counter_max a.next_id a.o.life)
+    (issued_hit a.period a.config.hit_counter_max a.config.initialization_delay a.config.reid_hit_counter_max a.next_id a.o.life)
 
 returns : tie.Need-returns
 unfolding object_hit

@@ -9,7 +9,7 @@ use lib.IntN.{pos}
 use mir.Facts.{to_z-of_z}
 use Rattle.parts.specs.Layout.{width}
 use Rattle.tracked_object.specs.Object.{takes, conditionally_added}
-use Rattle.parts.proofs.Bounds.{block-most}
+use Rattle.parts.proofs.Bounds.{block_most}
 use Rattle.parts.proofs.PastLaws.{inside}
 use Rattle.tracked_object.proofs.MergeLaws.{some_of}
 use Rattle.tracked_object.proofs.merging.conditionally_add_to_past_detections.Statement.{
@@ -40,7 +40,7 @@ make_room-requires c κs = (rw c.layout_of-at.ensures (omega arith), some c.befo
 place_of-place-requires : tie.Need-place_of-place-requires
 place_of-place-requires c κs =
     let s = c in (
-      rw c.layout_of-at.ensures (omega (arith, block-most s.args.config s.requires.0)),
+      rw c.layout_of-at.ensures (omega (arith, block_most s.args.config s.requires.0)),
       some c.before.before.before.before.before.before,
       search rules,
     )

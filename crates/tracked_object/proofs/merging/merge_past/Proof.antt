@@ -16,7 +16,7 @@ use Rattle.parts.specs.declared.block.Layout.{Layout}
 use Rattle.parts.specs.Layout.{past_place, block_size, layout_of}
 use Rattle.parts.specs.Ranges.{unaged}
 use Rattle.tracked_object.specs.Object.{history, history_merged, entry_of}
-use Rattle.parts.proofs.Bounds.{block-most}
+use Rattle.parts.proofs.Bounds.{block_most}
 use Rattle.tracked_object.proofs.MergeLaws.{HistoryKept, turn, kept_turns, entry_inside, length-entry}
 use Rattle.tracked_object.proofs.merging.merge_past.Statement.{statement}
 use Rattle.tracked_object.proofs.merging.merge_past.Tie as tie
@@ -71,7 +71,7 @@ room c =
     let a = (given c.before).args in
     let p = (given c.before).requires in
     let made = c.layout_of-at in
-    (inside a.config made.result made.ensures a.from.now c.loop-i.i p.5 (omega arith), omega (arith, block-most a.config p.0))
+    (inside a.config made.result made.ensures a.from.now c.loop-i.i p.5 (omega arith), omega (arith, block_most a.config p.0))
 
 overflow_mul-start : tie.Need-overflow_mul-start invariant-loop-i decreases-loop-i
 overflow_mul-start c = let h = room c in record { fits = omega arith }

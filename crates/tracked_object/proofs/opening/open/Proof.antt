@@ -4,7 +4,7 @@ use borrow.Author.Rules.{rules}
 use mir.Facts.{to_z-of_z}
 use Rattle.tracked_object.specs.Object.{object_opened, block_opened}
 use Rattle.parts.proofs.Bounds.{filter_inside, last_inside}
-use Rattle.parts.proofs.LifeLaws.{issued-opened}
+use Rattle.parts.proofs.LifeLaws.{issued_opened}
 use Rattle.tracked_object.proofs.opening.open.Statement.{statement}
 use Rattle.tracked_object.proofs.opening.open.Tie as tie
 
@@ -30,7 +30,7 @@ opened_counter-counter-requires c κs = search rules
 set_flags-flags-requires : tie.Need-set_flags-flags-requires
 set_flags-flags-requires c κs =
     let s = c in
-    (s.requires.0.points-most, omega arith)
+    (s.requires.0.points_most, omega arith)
 
 shape_of-s : tie.Need-shape_of-s
 shape_of-s c = search rules
@@ -46,7 +46,7 @@ returns c =
         c.set_flags-flags.ensures,
         c.open_life-life.ensures,
         to_z-of_z {z = a.config.initialization_delay} (record { sfits = told.1.1.1.1.1.0.1 }),
-        issued-opened a.period a.config.initialization_delay a.next_id,
+        issued_opened a.period a.config.initialization_delay a.next_id,
       ),
       rw (stored.write_detection.ensures, stored.make.ensures, stored.layout_of-at.ensures),
     )
