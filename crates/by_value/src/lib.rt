@@ -1,4 +1,4 @@
-// Step 2 by value, for programs: the pair list is an array of the caller's, so that none needs a proof by hand.
+// Step 2 by value, for programs: the pair list is an array of the caller's, handed in and handed back.
 #![tactic(auto)]
 
 ghost use Rattle.std.specs.Prelude.{◌≡◌, ◌++◌, ◌≤◌, length, take, drop, replicate};
