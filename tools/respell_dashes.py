@@ -10,7 +10,9 @@ import glob
 import re
 import sys
 
-TOKEN = re.compile(r"[^\s(){}\[\],;.«»\"`]+")
+sys.dont_write_bytecode = True
+from respell import TOKEN, text
+
 DECLARED = re.compile(r"^(\s*)(?:(?:pub|abbrev|unfoldable|data|record|open) )*([^\s:(){}]+) :(?: (.*)|)$")
 # two lemmas whose names differed by a dash alone, and fields that have a definition's suffix
 BY_HAND = {"in-frames": "in_frames_joined"}
@@ -19,11 +21,6 @@ FIELDS = {
     "global_id_of": ("global_id", ("crates/matching_step/", "crates/ledger/", "crates/tracker/")),
     "has_scores_at": ("has_scores", ("crates/tracked_object/", "crates/passes/", "crates/matching_step/", "crates/ledger/", "crates/tracker/")),
 }
-
-
-def text(path):
-    with open(path, encoding="utf-8") as f:
-        return f.read()
 
 
 def head(signature):
@@ -89,21 +86,14 @@ def main():
         print(f"{bad} names fall together: nothing is written")
         return 1
     for p in specs + lemmas + walked + others + pages:
-        here = dict(new)
-        for n, (t, where) in FIELDS.items():
-            if p.startswith(where):
-                here[n] = t
-        old = text(p)
-        if p.endswith(".md"):
-            now = re.sub(r"`[^`\n]+`", lambda m: TOKEN.sub(lambda k: here.get(k.group(0), k.group(0)), m.group(0)), old) if not p.endswith("PORT.md") else old
-        else:
-            now = TOKEN.sub(lambda m: here.get(m.group(0), m.group(0)), old)
-        if now != old:
-            with open(p, "w", encoding="utf-8") as f:
-                f.write(now)
-    print(f"{len(new)} names respelt")
-    return 0
+        here = new | {n: t for n, (t, where) in FIELDS.items() if p.startswith(where)}
+        turned = lambda part: TOKEN.sub(lambda m: here.get(m.group(0), m.group(0)), part)
+        page = p.endswith(".md")
+        if page and p.endswith("PORT.md"):
+            continue
+        now = re.sub(r"`[^`\n]+`", lambda m: turned(m.group(0)), text(p)) if page else turned(text(p))
+        open(p, "w", encoding="utf-8").write(now)
+    print(len(new), "names")
 
 
-if __name__ == "__main__":
-    sys.exit(main())
+sys.exit(main())
