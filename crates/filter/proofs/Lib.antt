@@ -1,2 +1,2 @@
--- The laws of a filter's block, and its the marked examples.
+-- The laws of a filter's block.
 pub mod Block

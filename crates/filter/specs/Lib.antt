@@ -1,4 +1,4 @@
--- The optimized filter: its settings, one coordinate, the mask, a record's block, and the marked examples.
+-- The optimized filter: its settings, one coordinate, the mask and a record's block.
 pub mod Settings
 pub mod Coordinate
 pub mod Mask

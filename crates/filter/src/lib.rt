@@ -1,11 +1,16 @@
 // The optimized filter of filter/optimized.rs, on a record's block of the lent storage: docs/RULES.md, rules 4 and 50 to 55.
 #![tactic(auto)]
 
-ghost use Rattle.std.specs.Prelude.{◌≡◌, ◌*◌, ◌<◌, ◌≤◌, length};
+pub mod detection;
+
+ghost use Rattle.std.specs.Prelude.{◌≡◌, ℕ, ◌*◌, ◌<◌, ◌≤◌, length};
+ghost use Rattle.filter.specs.declared.Coordinate.{Coordinate};
 ghost use Rattle.filter.specs.Settings.{defaults};
 ghost use Rattle.filter.specs.Coordinate.{started, predicted, updated};
 ghost use Rattle.filter.specs.Mask.{some_at_most, mask_exists, observed};
-ghost use Rattle.filter.specs.Block.{coordinate_at, with_coordinate, turn, predict_of, made_block, predicted_block, updated_block};
+ghost use Rattle.filter.specs.Block.{coordinate_at, with_coordinate, each, made_block, predicted_block, updated_block};
+
+use detection::LentDetection;
 
 // The five filter settings. Each may be any float.
 #[derive(Clone, Copy)]
@@ -27,8 +32,12 @@ impl FilterSettings {
     pub const POS_VEL_COVARIANCE: f64 = 0.0;
 
     pub const VEL_VARIANCE: f64 = 1.0;
+}
 
-    pub fn default() -> Self
+impl Default for FilterSettings {
+    ghost is_default = { λ x. x ≡ defaults };
+
+    fn default() -> Self
         ensures { result ≡ defaults }
     {
         FilterSettings {
@@ -52,50 +61,78 @@ pub struct Coordinate {
     pub shown: f64,
 }
 
-// A new record's coordinate at z.
-fn start_coordinate(f: FilterSettings, z: f64) -> Coordinate
-    ensures { result ≡ started f z }
-{
-    Coordinate {
-        x: z,
-        velocity: 0.0,
-        pos: f.pos_variance,
-        cov: f.pos_vel_covariance,
-        vel: f.vel_variance,
-        shown: 0.0,
+impl Coordinate {
+    // A new record's coordinate at z.
+    fn start(f: FilterSettings, z: f64) -> Self
+        ensures { result ≡ started f z }
+    {
+        Coordinate {
+            x: z,
+            velocity: 0.0,
+            pos: f.pos_variance,
+            cov: f.pos_vel_covariance,
+            vel: f.vel_variance,
+            shown: 0.0,
+        }
     }
-}
 
-fn predict_coordinate(c: Coordinate) -> Coordinate
-    ensures { result ≡ predicted c }
-{
-    Coordinate {
-        x: c.x + c.velocity,
-        velocity: c.velocity,
-        pos: c.pos,
-        cov: c.cov,
-        vel: c.vel,
-        shown: c.velocity,
+    fn predict(self) -> Self
+        ensures { result ≡ predicted self }
+    {
+        Coordinate {
+            x: self.x + self.velocity,
+            shown: self.velocity,
+            ..self
+        }
     }
-}
 
-// One coordinate's update by z; d is 1, or 0 where its point is masked.
-fn update_coordinate(f: FilterSettings, z: f64, d: f64, c: Coordinate) -> Coordinate
-    ensures { result ≡ updated f z d c }
-{
-    let s = c.cov + c.vel;
-    let a = c.pos + c.cov + s + f.q + f.r;
-    let k = f.r / a;
-    let g = s / a;
-    let m = a * (1.0 - d) + f.r * d;
-    let e = (z - c.x) * d;
-    Coordinate {
-        x: c.x + d * (1.0 - k) * e,
-        velocity: c.velocity + d * g * e,
-        pos: (1.0 - k) * m,
-        cov: g * m,
-        vel: c.vel + (f.q - d * g * g * a),
-        shown: c.shown,
+    // The update by z; d is 1, or 0 where the coordinate's point is masked.
+    fn update(self, f: FilterSettings, z: f64, d: f64) -> Self
+        ensures { result ≡ updated f z d self }
+    {
+        let s = self.cov + self.vel;
+        let a = self.pos + self.cov + s + f.q + f.r;
+        let k = f.r / a;
+        let g = s / a;
+        let m = a * (1.0 - d) + f.r * d;
+        let e = (z - self.x) * d;
+        Coordinate {
+            x: self.x + d * (1.0 - k) * e,
+            velocity: self.velocity + d * g * e,
+            pos: (1.0 - k) * m,
+            cov: g * m,
+            vel: self.vel + (f.q - d * g * g * a),
+            ..self
+        }
+    }
+
+    // Coordinate j of a block of n. The block stays a lent slice beside a number: a struct of both, with a ghost field on its length, is no plainer.
+    fn read(block: &[f64], n: usize, j: usize) -> Self
+        requires { (j < n) × (6 * n ≤ length block.now) }
+        ensures { result ≡ coordinate_at n j block.now }
+    {
+        Coordinate {
+            x: block[j],
+            velocity: block[n + j],
+            pos: block[2 * n + j],
+            cov: block[3 * n + j],
+            vel: block[4 * n + j],
+            shown: block[5 * n + j],
+        }
+    }
+
+    // Stores it as coordinate j of a block of n.
+    #[tactic(auto, unfolding(crate::specs::Block::with_coordinate))]
+    fn put(self, block: &mut [f64], n: usize, j: usize)
+        requires { (j < n) × (6 * n ≤ length block.old) }
+        ensures { block.new ≡ with_coordinate n j self block.old }
+    {
+        block[j] = self.x;
+        block[n + j] = self.velocity;
+        block[2 * n + j] = self.pos;
+        block[3 * n + j] = self.cov;
+        block[4 * n + j] = self.vel;
+        block[5 * n + j] = self.shown;
     }
 }
 
@@ -103,88 +140,35 @@ fn update_coordinate(f: FilterSettings, z: f64, d: f64, c: Coordinate) -> Coordi
 fn some_at_most(threshold: f64, scores: &[f64]) -> bool
     ensures { result ≡ some_at_most threshold scores.now }
 {
-    let mut i = 0;
-    while i < scores.len() {
-        if scores[i] <= threshold {
-            return true;
-        }
-        i += 1;
-    }
-    false
+    scores.iter().any(|score| *score <= threshold)
 }
 
 // Whether a mask exists: scores are present and one is at most the threshold.
-fn needs_mask(has_scores: bool, threshold: f64, scores: &[f64]) -> bool
-    ensures { result ≡ mask_exists has_scores threshold scores.now }
+#[tactic(auto, unfolding(crate::specs::Mask::mask_exists))]
+fn needs_mask(d: LentDetection<'_>, threshold: f64) -> bool
+    ensures { result ≡ mask_exists d.entry.has_scores threshold d.entry.scores.now }
 {
-    if has_scores {
-        return some_at_most(threshold, scores);
-    }
-    false
+    d.has_scores && some_at_most(threshold, d.scores)
 }
 
 // The d of a coordinate whose point has this score.
 fn diagonal(mask: bool, threshold: f64, score: f64) -> f64
     ensures { result ≡ observed mask threshold score }
 {
-    if mask {
-        if score > threshold {
-            return 1.0;
-        }
-        return 0.0;
+    if !mask || score > threshold { 1.0 } else { 0.0 }
+}
+
+// Makes each coordinate of a block of n anew by `step`, from its number and what it was.
+fn change_each<F: Fn(usize, Coordinate) -> Coordinate>(block: &mut [f64], n: usize, step: F)
+    requires room { 6 * n ≤ length block.old }
+    requires callable { (j : ℕ) (c : Coordinate) → j < n → F.pre step j c }
+    ensures { (g : ℕ → Coordinate → Coordinate)
+        → ((j : ℕ) (c r : Coordinate) → j < n → F.post step j c r → r ≡ g j c)
+        → block.new ≡ each g n block.old }
+{
+    for j in 0..n {
+        step(j, Coordinate::read(block, n, j)).put(block, n, j);
     }
-    1.0
-}
-
-// Coordinate j of a block of n.
-fn read_coordinate(block: &[f64], n: usize, j: usize) -> Coordinate
-    requires { (j < n) × (6 * n ≤ length block.now) }
-    ensures { result ≡ coordinate_at n j block.now }
-{
-    Coordinate {
-        x: block[j],
-        velocity: block[n + j],
-        pos: block[2 * n + j],
-        cov: block[3 * n + j],
-        vel: block[4 * n + j],
-        shown: block[5 * n + j],
-    }
-}
-
-fn put_coordinate(block: &mut [f64], n: usize, j: usize, c: Coordinate)
-    requires { (j < n) × (6 * n ≤ length block.old) }
-    ensures { block.new ≡ with_coordinate n j c block.old }
-{
-    block[j] = c.x;
-    block[n + j] = c.velocity;
-    block[2 * n + j] = c.pos;
-    block[3 * n + j] = c.cov;
-    block[4 * n + j] = c.vel;
-    block[5 * n + j] = c.shown;
-}
-
-// The turns of make, predict and update: coordinate j of the block.
-fn start_at(block: &mut [f64], n: usize, j: usize, f: FilterSettings, z: f64)
-    requires { (j < n) × (6 * n ≤ length block.old) }
-    ensures { block.new ≡ with_coordinate n j (started f z) block.old }
-{
-    put_coordinate(block, n, j, start_coordinate(f, z));
-}
-
-fn predict_at(block: &mut [f64], n: usize, j: usize)
-    requires { (j < n) × (6 * n ≤ length block.old) }
-    ensures { block.new ≡ turn predict_of n j block.old }
-{
-    let c = read_coordinate(block, n, j);
-    put_coordinate(block, n, j, predict_coordinate(c));
-}
-
-fn update_at(block: &mut [f64], n: usize, j: usize, f: FilterSettings, z: f64, d: f64)
-    requires { (j < n) × (6 * n ≤ length block.old) }
-    ensures { block.new ≡ with_coordinate n j (updated f z d (coordinate_at n j block.old)) block.old }
-{
-    let c = read_coordinate(block, n, j);
-    put_coordinate(block, n, j, update_coordinate(f, z, d, c));
 }
 
 // The filter of a new record: n positions from a detection's points, all else from the settings.
@@ -192,11 +176,7 @@ pub fn make(block: &mut [f64], n: usize, f: FilterSettings, points: &[f64])
     requires { (6 * n ≤ length block.old) × (n ≤ length points.now) }
     ensures { block.new ≡ made_block f points.now n block.old }
 {
-    let mut j = 0;
-    while j < n {
-        start_at(block, n, j, f, points[j]);
-        j += 1;
-    }
+    change_each(block, n, |j, _| Coordinate::start(f, points[j]));
 }
 
 // Each position gains its velocity, and the shown velocity is copied.
@@ -204,11 +184,7 @@ pub fn predict(block: &mut [f64], n: usize)
     requires { 6 * n ≤ length block.old }
     ensures { block.new ≡ predicted_block n block.old }
 {
-    let mut j = 0;
-    while j < n {
-        predict_at(block, n, j);
-        j += 1;
-    }
+    change_each(block, n, |_, c| c.predict());
 }
 
 // The update of a record's filter by a detection of points of k coordinates each.
@@ -217,19 +193,15 @@ pub fn update(
     n: usize,
     f: FilterSettings,
     k: usize,
-    points: &[f64],
-    has_scores: bool,
     threshold: f64,
-    scores: &[f64],
+    d: LentDetection<'_>,
 )
-    requires { (0 < k) × (6 * n ≤ length block.old) × (n ≤ length points.now) × (n ≤ length scores.now * k) }
-    ensures { block.new ≡ updated_block f k points.now has_scores threshold scores.now n block.old }
+    requires { (0 < k) × (6 * n ≤ length block.old) × (n ≤ length d.points.now) × (n ≤ length d.scores.now * k) }
+    ensures { block.new ≡ updated_block f k d.entry.points.now d.entry.has_scores threshold d.entry.scores.now n block.old }
 {
-    let mask = needs_mask(has_scores, threshold, scores);
-    let mut j = 0;
-    while j < n {
-        let d = diagonal(mask, threshold, scores[j / k]);
-        update_at(block, n, j, f, points[j], d);
-        j += 1;
-    }
+    let mask = needs_mask(d, threshold);
+    change_each(block, n, |j, c| {
+        let seen = diagonal(mask, threshold, d.scores[j / k]);
+        c.update(f, d.points[j], seen)
+    });
 }

@@ -6,7 +6,7 @@ use Prim.Native.Nat.{ℕ, zero, suc, ◌+◌, ◌-◌, ◌<◌, ◌≤◌}
 use native.Mathlib.Omega.{arith}
 use native.Mathlib.Numerals.{add-one}
 use lib.ListN.{length, get_or, set, take, replicate, length-append, length-map, length-replicate, get_or-append}
-use lib.Seq.{set-append_seam, take-append_seam, length-take-le, take-suc}
+use lib.Seq.{set-append_seam, take-append_seam, take-suc}
 use Rattle.laws.specs.Lists.{below, keep, filled}
 
 pub length_snoc : {A : Type 0} (l : List A) (x : A) → length (l ++ (x ∷ [])) ≡ suc (length l)
@@ -34,12 +34,6 @@ module _ {A : Type 0} (n : ℕ) (d : A) (l : List A) where
 
   pub filled_next : {i : ℕ} (x : A) → length l ≡ i → i < n → set (filled n d l) i x ≡ filled n d (l ++ (x ∷ []))
   filled_next {i} x e h = rw (← e) (filled_snoc x (omega arith))
-
--- with an element of a list that is copied
-pub filled_copy : {A : Type 0} (n : ℕ) (d : A) (l : List A) (i : ℕ) (z : A) → i < length l → i < n
-    → set (filled n d (take i l)) i (get_or l i z) ≡ filled n d (take (i + 1) l)
-filled_copy n d l i z h few =
-    rw (add-one i, take-suc l i z h) (filled_next n d (take i l) (get_or l i z) (length-take-le i l (omega arith)) few)
 
 -- ---- the numbers below a count, and those that pass a test
 

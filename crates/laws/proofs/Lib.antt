@@ -11,7 +11,6 @@ pub mod Growing
 pub mod Mapped
 pub mod Pasting
 pub mod Search
-pub mod Signed
 pub mod Standing
 pub mod Through
 pub mod Turns

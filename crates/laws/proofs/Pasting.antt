@@ -2,11 +2,11 @@
 use mathlib.Core.Path.{◌≡◌, sym, ◌∙◌, ap}
 use mathlib.Core.List.{List, [], ◌∷◌, ◌++◌, append_assoc}
 use Prim.Native.Nat.{ℕ, suc, ◌+◌, ◌-◌, ◌<◌, ◌≤◌}
-use native.Mathlib.Nat.{zero-add, add-zero, add_assoc}
+use native.Mathlib.Nat.{zero-add, add-zero}
 use native.Mathlib.Numerals.{add-one}
 use native.Mathlib.Omega.{arith}
 use lib.ListN.{length, get_or, set, take, drop, length-drop}
-use lib.Seq.{paste, paste-suc, set_split, append_snoc, take-paste, drop-paste, length_paste_head, length-take-le, take-append-le, take-append-add, take-length, take_all, take-take, take-add, take_at, drop_at, drop-drop, get_or-drop}
+use lib.Seq.{paste, set_split, append_snoc, drop-paste, length_paste_head, length-take-le, take-append-le, take_all, take-take, take-add, take_at, drop_at, drop-drop, get_or-drop}
 
 module _ {A : Type 0} (d : List A) (at : ℕ) (s : List A) (n k : ℕ) where
   -- what lies in front stays
@@ -42,26 +42,9 @@ module _ {A : Type 0} where
   pub paste_here : (l : List A) (at : ℕ) (s : List A) (n : ℕ) → at ≤ length l → n ≤ length s → take n (drop at (paste l at s n)) ≡ take n s
   paste_here l at s n hl hs = rw (zero-add, add-zero) at (paste_part l at 0 s n (omega arith) hs)
 
-  -- a copy right behind a copy
-  pub paste-append : (d : List A) (at : ℕ) (a b : List A) (n m : ℕ) → n ≡ length a → at + (n + m) ≤ length d
-      → paste (paste d at a n) (at + n) b m ≡ paste d at (a ++ b) (n + m)
-  paste-append d at a b n m e h =
-      let front = take-paste d at a n (omega arith) (omega arith) in
-      let behind = paste_behind d at a n (at + n + m) (omega arith) (omega arith) (omega arith) in
-      let both : take (n + m) (a ++ b) ≡ take n a ++ take m b = rw (e, take-append-add, take-length) in
-      rw (front, behind, both) (simp (append_assoc, add_assoc))
-
   -- one element
   pub paste_one : (d : List A) (k : ℕ) (x : A) → k < length d → set d k x ≡ paste d k (x ∷ []) 1
   paste_one d k x h = rw add-one (set_split d k x h ∙ sym (append_snoc (take k d) x (drop (suc k) d)))
-
-  -- a turn of the loop that moves elements down: what it reads, at k, is still the old element
-  pub move_suc : (d : List A) (at from j i k : ℕ) (z : A) → i ≡ at + j → k ≡ from + j → at ≤ from → from + j < length d
-      → set (paste d at (drop from d) j) i (get_or (paste d at (drop from d) j) k z) ≡ paste d at (drop from d) (suc j)
-  move_suc d at from j i k z to of h hd =
-      let e = length-drop from d in
-      rw (to, of, get_or-behind d at (drop from d) j (from + j) z (omega arith) (omega arith) (omega arith), ← get_or-drop from d j z)
-      (paste-suc d at (drop from d) j z (omega arith) (omega arith))
 
 -- ---- n elements from a place on, as a lent part is cut out
 

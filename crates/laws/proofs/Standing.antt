@@ -5,7 +5,10 @@ use mathlib.Core.List.{List, [], ◌∷◌, ◌++◌}
 use Prim.Native.Nat.{ℕ, ◌+◌, ◌<◌}
 use native.Mathlib.Omega.{arith}
 use native.Mathlib.Numerals.{add-one}
-use lib.ListN.{length, set}
+use mathlib.Core.Logic.{◌≢◌}
+use lib.ListN.{length, get_or, set}
+use lib.Seq.{get_or-set_same, get_or-set_other}
+use Rattle.std.proofs.Common.{below_more}
 use Rattle.laws.specs.Lists.{below, keep, padded}
 use Rattle.laws.proofs.Growing.{length_snoc, filled_snoc, length-below, length-keep, joins, stays_out}
 
@@ -37,3 +40,15 @@ module _ (n : ℕ) {at : List ℕ} {count : ℕ} where
     pub below_stays : p i ≡ false → Stands n (keep p (below i)) at count → Stands n (keep p (below (i + 1))) at count
     unfolding below
     below_stays e held = rw (add-one i) (stands_stays p (below i) i e held)
+
+-- ---- flags that say of each number below a count whether a test holds
+
+abbrev pub Flagged : (ℕ → Bool) → List Bool → ℕ → Type 0
+Flagged p flags i = (k : ℕ) → k < i → get_or flags k false ≡ p k
+
+pub flagged_next : (p : ℕ → Bool) (flags : List Bool) (i : ℕ) {b : Bool} → i < length flags → b ≡ p i → Flagged p flags i
+    → Flagged p (set flags i b) (i + 1)
+flagged_next p flags i h e told =
+    below_more _ _
+    (λ k lt. let ne : k ≢ i = omega arith in rw get_or-set_other (told k lt))
+    (rw get_or-set_same e)

@@ -1,4 +1,5 @@
 -- Rules 45, 46 and 75: over any sequence of calls from a fresh tracker, each record in the table bears the permanent ID that the history issued to it, and none while it initializes.
+use Rattle.std.specs.Prelude.{Option, Some, None}
 use mathlib.Core.Path.{◌≡◌}
 use mathlib.Core.Bool.{Bool}
 use mathlib.Core.List.{List, ◌++◌, Memᴰ}
@@ -7,8 +8,6 @@ use lib.Ieee.{Float}
 use lib.ListN.{length}
 use Rattle.laws.specs.Every.{Every, none, one}
 use Rattle.laws.proofs.Through.{through_hold}
-use Rattle.parts.specs.declared.PermanentId.{PermanentId}
-use Rattle.parts.specs.declared.PermanentId.TheVariants.{Unissued, Issued}
 use Rattle.parts.specs.declared.TrackedObject.{TrackedObject}
 use Rattle.parts.specs.declared.TrackerConfig.{TrackerConfig}
 use Rattle.table.specs.declared.Table.{Table}
@@ -67,22 +66,22 @@ kept_on call d k =
       borne = rw (issued_on call d) (borne_called (ever_issued d) call d.world (sound_most k.reached.sound) k.borne);
     }
 
-fresh_kept : (c : TrackerConfig) (s : List Float) → (made c (length s)).refusal ≡ 0 → Kept (fresh c s)
+fresh_kept : (c : TrackerConfig) (s : List Float) → (made c (length s)).refusal ≡ None → Kept (fresh c s)
 fresh_kept c s made-well = record { reached = reached_fresh c (length s) made-well; borne = rw (accepted_fresh c (length s) made-well) none }
 
 -- after each call every record in the table that initializes no more bears a permanent ID that the history issued to it, and one that initializes bears none
-pub ids_borne : (c : TrackerConfig) (s : List Float) → (made c (length s)).refusal ≡ 0 → (calls : List Call)
+pub ids_borne : (c : TrackerConfig) (s : List Float) → (made c (length s)).refusal ≡ None → (calls : List Call)
     → Borne (ever_issued (day_of c s calls)) (table_objects (day_of c s calls).world.table)
 unfolding day_of
 ids_borne c s made-well calls = (through_hold goes_on Kept calls (fresh c s) kept_on (fresh_kept c s made-well)).borne
 
 -- ---- so an ID shown is one issued to that record
 
-abbrev IfIssued : List Issue → ℕ → PermanentId → Type 0
-IfIssued issued name Unissued = Unit {0}
-IfIssued issued name (Issued k) = Memᴰ (issue k name) issued
+abbrev IfIssued : List Issue → ℕ → Option ℕ → Type 0
+IfIssued issued name None = Unit {0}
+IfIssued issued name (Some k) = Memᴰ (issue k name) issued
 
-if_issued : {issued : List Issue} {name : ℕ} {i : Bool} {d : PermanentId} → Standing issued name i d → IfIssued issued name d
+if_issued : {issued : List Issue} {name : ℕ} {i : Bool} {d : Option ℕ} → Standing issued name i d → IfIssued issued name d
 if_issued waits = tt
 if_issued (has m) = m
 
@@ -91,6 +90,6 @@ every_member none m = elim m [ ]
 every_member (one p r) (Memᴰ.head e) = rw e p
 every_member (one p r) (Memᴰ.tail m) = every_member r m
 
-pub shown_as_issued : (c : TrackerConfig) (s : List Float) → (made c (length s)).refusal ≡ 0 → (calls : List Call) (o : TrackedObject) (k : ℕ)
-    → Memᴰ o (table_objects (day_of c s calls).world.table) → o.life.id ≡ Issued k → Memᴰ (issue k (name_of o)) (ever_issued (day_of c s calls))
+pub shown_as_issued : (c : TrackerConfig) (s : List Float) → (made c (length s)).refusal ≡ None → (calls : List Call) (o : TrackedObject) (k : ℕ)
+    → Memᴰ o (table_objects (day_of c s calls).world.table) → o.life.id ≡ Some k → Memᴰ (issue k (name_of o)) (ever_issued (day_of c s calls))
 shown_as_issued c s made-well calls o k there e = rw e at (if_issued (every_member (ids_borne c s made-well calls) there))

@@ -1,4 +1,5 @@
 -- Rule 75: whatever the call, and whether it is accepted or refused, its entry is fair; so every sequence of calls from a fresh tracker is counted.
+use Rattle.std.specs.Prelude.{None}
 use mathlib.Core.Path.{◌≡◌, refl}
 use mathlib.Core.List.{List, []}
 use native.Mathlib.Omega.{arith}
@@ -25,7 +26,7 @@ use Rattle.ledger.proofs.Counted.{Counted, counted_on}
 
 -- ---- one call
 
-fairly_did : (call : Call) (w : World) → Ordered w.table → refusal_of call w ≡ 0 → Fairly w.table (did call w (done call w)) (done call w).table
+fairly_did : (call : Call) (w : World) → Ordered w.table → refusal_of call w ≡ None → Fairly w.table (did call w (done call w)) (done call w).table
 fairly_did predict w o accepted = fairly_predicted w.table w.storage o
 fairly_did (match n f l) w o accepted =
     fairly_matched w.table w.storage n f o (length l) accepted (listed_pairs w.table w.storage n f (length l))
@@ -64,7 +65,7 @@ fresh_counted c =
       absorbed = none;
     }
 
-module _ (c : TrackerConfig) (s : List Float) (made-well : (made c (length s)).refusal ≡ 0) where
+module _ (c : TrackerConfig) (s : List Float) (made-well : (made c (length s)).refusal ≡ None) where
   fresh_kept : Kept (fresh c s)
   unfolding gather
   fresh_kept = rw (accepted_fresh c (length s) made-well) (fresh_counted (settled c))

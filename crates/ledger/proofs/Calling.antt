@@ -1,8 +1,8 @@
 -- Rules 11, 12 and 75: a call is accepted or refused: what holds of nothing done and of what was done holds of the call. Every law over calls cites this.
+use Rattle.table.proofs.Due.{none_is}
+use Rattle.std.specs.Prelude.{None, is_none}
 use mathlib.Core.Path.{◌≡◌, refl}
 use mathlib.Core.Bool.{Bool, true, false, cond}
-use borrow.Author.Tests.{eqb-true}
-use lib.Dec.{eqb}
 use Rattle.predict.specs.Step.{predict_table, predict_floats}
 use Rattle.matching_step.specs.Step.{match_table, match_floats, matched_floats}
 use Rattle.reid.specs.Step.{reid_table, reid_floats}
@@ -27,23 +27,23 @@ unmoved true w = refl
 unmoved false w = refl
 
 -- what the contracts say: an accepted call leaves that world, a refused one the world as it was
-pub after_is : (call : Call) (w : World) → after call w ≡ cond (eqb (refusal_of call w) 0) (done call w) w
+pub after_is : (call : Call) (w : World) → after call w ≡ cond (is_none (refusal_of call w)) (done call w) w
 unfolding after predict_answer predict_storage match_answer matched_floats reid_answer reid_storage
-after_is predict w = either (eqb (refusal_of predict w) 0) (done predict w) w
-after_is (match n f l) w = either (eqb (refusal_of (match n f l) w) 0) (done (match n f l) w) w
-after_is (reid ds l) w = either (eqb (refusal_of (reid ds l) w) 0) (done (reid ds l) w) w
-after_is total w = unmoved (eqb (refusal_of total w) 0) w
-after_is current w = unmoved (eqb (refusal_of current w) 0) w
+after_is predict w = either (is_none (refusal_of predict w)) (done predict w) w
+after_is (match n f l) w = either (is_none (refusal_of (match n f l) w)) (done (match n f l) w) w
+after_is (reid ds l) w = either (is_none (refusal_of (reid ds l) w)) (done (reid ds l) w) w
+after_is total w = unmoved (is_none (refusal_of total w)) w
+after_is current w = unmoved (is_none (refusal_of current w)) w
 
 pub called : (P : Entry → World → Type 0) (call : Call) (w : World) → P (nothing w) w
-    → (refusal_of call w ≡ 0 → P (did call w (done call w)) (done call w)) → P (entry_of call w) (after call w)
+    → (refusal_of call w ≡ None → P (did call w (done call w)) (done call w)) → P (entry_of call w) (after call w)
 unfolding entry_of
-called P call w still step = go (eqb (refusal_of call w) 0) (after call w) (after_is call w) refl
+called P call w still step = go (is_none (refusal_of call w)) (after call w) (after_is call w) refl
   where
-    go : (b : Bool) (u : World) → u ≡ cond b (done call w) w → eqb (refusal_of call w) 0 ≡ b → P (cond b (did call w u) (nothing w)) u
-    go true u e h = rw e (step (eqb-true (refusal_of call w) 0 h))
+    go : (b : Bool) (u : World) → u ≡ cond b (done call w) w → is_none (refusal_of call w) ≡ b → P (cond b (did call w u) (nothing w)) u
+    go true u e h = rw e (step (none_is (refusal_of call w) h))
     go false u e h = rw e still
 
 -- a refused call changes nothing in the ledger: no entry, and the same table and storage
-pub refused_nothing : (call : Call) (w : World) → (refusal_of call w ≡ 0 → ⊥) → (entry_of call w ≡ nothing w) × (after call w ≡ w)
+pub refused_nothing : (call : Call) (w : World) → (refusal_of call w ≡ None → ⊥) → (entry_of call w ≡ nothing w) × (after call w ≡ w)
 refused_nothing call w refused = called (λ e u. (e ≡ nothing w) × (u ≡ w)) call w (refl, refl) (λ accepted. absurd (refused accepted))

@@ -1,4 +1,5 @@
 -- Rule 75: demand 3 of what is counted: all of it but the total by counting alone, and the total of a whole table.
+use Rattle.std.specs.Prelude.{None, Ok}
 use mathlib.Core.Path.{◌≡◌}
 use mathlib.Core.Bool.{true}
 use mathlib.Core.List.{List, ◌++◌}
@@ -61,7 +62,7 @@ module _ {l : List Entry} {t : Table} (c : Counted l t) where
   pub permanent_most : t.counts.permanent ≤ t.counts.opened + 1
   permanent_most = omega (arith, permanent_next, issued_few)
 
-  pub total_is : whole_table t ≡ true → total_answer t ≡ record { refusal = 0; count = length (issued_in l) }
+  pub total_is : whole_table t ≡ true → total_answer t ≡ Ok (length (issued_in l))
   unfolding total_answer first_due
   total_is whole =
       let less : t.counts.permanent - 1 ≡ length (issued_in l) = omega (arith, permanent_next) in
@@ -96,7 +97,7 @@ demanded d k whole =
 
 -- ---- any sequence of calls from a fresh tracker
 
-module _ (c : TrackerConfig) (s : List Float) (made-well : (made c (length s)).refusal ≡ 0) (calls : List Call) where
+module _ (c : TrackerConfig) (s : List Float) (made-well : (made c (length s)).refusal ≡ None) (calls : List Call) where
   pub permanent_few : (day_of c s calls).world.table.counts.permanent ≤ (day_of c s calls).world.table.counts.opened + 1
   permanent_few = permanent_most (counted c s made-well calls)
 

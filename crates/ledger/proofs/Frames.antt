@@ -1,11 +1,11 @@
 -- Rules 11, 33 and 75: there are as many frames in the history as were begun, and before the first one nothing was done.
+use Rattle.std.specs.Prelude.{None, is_none}
 use mathlib.Core.Path.{◌≡◌, refl, sym, ◌∙◌}
 use mathlib.Core.Bool.{Bool, true, false, true≢false, cond}
 use mathlib.Core.List.{List, [], ◌∷◌, ◌++◌}
 use Prim.Native.Nat.{ℕ, ◌+◌}
 use native.Mathlib.Omega.{arith}
 use borrow.Author.Tests.{eqb-true, not-false}
-use lib.Dec.{eqb}
 use lib.Ieee.{Float}
 use lib.ListN.{length, length-append}
 use Rattle.laws.specs.Every.{Every, none, one}
@@ -17,7 +17,7 @@ use Rattle.table.specs.declared.Phase.TheVariants.{Match, Reid}
 use Rattle.table.specs.declared.Table.{Table}
 use Rattle.table.specs.Making.{made}
 use Rattle.table.specs.Refusals.{Check, first_due, phase_number, step_checks}
-use Rattle.table.proofs.Due.{after_step, none_due}
+use Rattle.table.proofs.Due.{after_step, none_due, none_is}
 use Rattle.table.proofs.MakingLaws.{accepted_fresh}
 use Rattle.predict.proofs.StepLaws.{frames_rise}
 use Rattle.matching_step.proofs.AccountLaws as matching
@@ -27,14 +27,14 @@ use Rattle.ledger.proofs.Calling.{done, called}
 
 -- ---- an accepted step is the next one
 
-next_step : (step : Phase) (t : Table) (floats : ℕ) (l : List Check) → first_due (step_checks step t floats ++ l) ≡ 0
+next_step : (step : Phase) (t : Table) (floats : ℕ) (l : List Check) → first_due (step_checks step t floats ++ l) ≡ None
     → phase_number t.phase ≡ phase_number step
-next_step step t floats l h = go (eqb (first_due (step_checks step t floats)) 0) refl (sym (after_step step t floats l) ∙ h)
+next_step step t floats l h = go (is_none (first_due (step_checks step t floats))) refl (sym (after_step step t floats l) ∙ h)
   where
-    go : (b : Bool) → eqb (first_due (step_checks step t floats)) 0 ≡ b → cond b (first_due l) (first_due (step_checks step t floats)) ≡ 0
+    go : (b : Bool) → is_none (first_due (step_checks step t floats)) ≡ b → cond b (first_due l) (first_due (step_checks step t floats)) ≡ None
         → phase_number t.phase ≡ phase_number step
     go true e h =
-        let due = none_due (step_checks step t floats) (omega arith, (omega arith, (omega arith, tt))) (eqb-true _ 0 e) in
+        let due = none_due (step_checks step t floats) (none_is _ e) in
         eqb-true (phase_number t.phase) (phase_number step) (not-false _ due.1.1.0)
     go false e h = absurd (true≢false (rw h at e))
 
@@ -47,7 +47,7 @@ record Going (w : World) (e : Entry) (u : World) : Type 0 where
 still : (w : World) (e : Entry) → e.step ≡ 0 → Going w e w
 still w e idly = record { frames = rw idly (omega arith); idle = λ first more. (idly, first) }
 
-going_did : (call : Call) (w : World) → refusal_of call w ≡ 0 → Going w (did call w (done call w)) (done call w)
+going_did : (call : Call) (w : World) → refusal_of call w ≡ None → Going w (did call w (done call w)) (done call w)
 going_did predict w accepted = record { frames = frames_rise w.table w.storage; idle = λ first more. absurd (true≢false more) }
 going_did (match n f l) w accepted =
     record {
@@ -110,7 +110,7 @@ begun_on call d b = go (begins e) refl
           early = every_append b.early (waits e d.frames (λ z. (idle z).0));
         }
 
-module _ (c : TrackerConfig) (s : List Float) (accepted : (made c (length s)).refusal ≡ 0) (calls : List Call) where
+module _ (c : TrackerConfig) (s : List Float) (accepted : (made c (length s)).refusal ≡ None) (calls : List Call) where
   begun : Begun (day_of c s calls)
   unfolding day_of
   begun =

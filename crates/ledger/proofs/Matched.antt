@@ -1,4 +1,5 @@
 -- Rule 75, step 2: its entry is fair, if it was accepted.
+use Rattle.std.specs.Prelude.{None}
 use mathlib.Core.Path.{◌≡◌, refl, sym, ◌∙◌, ap}
 use mathlib.Core.List.{List, [], ◌++◌, map, map-append, map-map}
 use Prim.Native.Nat.{ℕ, ◌+◌, ◌≤◌}
@@ -60,7 +61,7 @@ module _ (t : Table) (s : List Float) (n : ℕ) (f : Frame) (o : Ordered t) wher
 
   -- ---- an accepted step
 
-  module _ (places : ℕ) (none : match_refusal t s n f places ≡ 0) where
+  module _ (places : ℕ) (none : match_refusal t s n f places ≡ None) where
     room : t.counts.records + length (match_account t s n f).opened ≤ 64
     room = omega (arith, (ready t s n f places o.long none).places, opened_length t s n f)
 

@@ -1,4 +1,5 @@
 -- Rules 46, 47 and 64: what one call tells the host: each record shows the global ID given at its opening, pairs tell the hits, an active list names who is there.
+use Rattle.std.specs.Prelude.{None}
 use mathlib.Core.Path.{◌≡◌, refl}
 use mathlib.Core.List.Memᴰ
 use mathlib.Core.List.{List, [], ◌∷◌, ◌++◌, map, Memᴰ}
@@ -118,7 +119,7 @@ names_active l u shown =
 -- ---- any call
 
 telling_did : (l : List Given) (call : Call) (w : World) → w.table.counts.records ≤ length w.table.records → ShownIn l w.table
-    → refusal_of call w ≡ 0 → Telling l (did call w (calling.done call w)) (calling.done call w).table
+    → refusal_of call w ≡ None → Telling l (did call w (calling.done call w)) (calling.done call w).table
 telling_did l predict w most shown accepted =
     record { table = shown_on [] (predict_shown l w.table w.storage most shown); pairs = done; active = none }
 telling_did l (match n f places) w most shown accepted =

@@ -1,4 +1,5 @@
 -- Rules 46, 47, 64 and 75: what the host sees, over any sequence of calls, with nothing assumed.
+use Rattle.std.specs.Prelude.{None}
 use mathlib.Core.Path.{◌≡◌, sym, ◌∙◌, ap}
 use mathlib.Core.List.Memᴰ
 use mathlib.Core.List.{List, [], ◌∷◌, ◌++◌, map, map-append, map-map, Memᴰ}
@@ -102,7 +103,7 @@ kept_on call d k =
       seen = rw (entries_on call d) (seen_on k.seen (telling_called (given_in (entries d)) call d.world (sound_most k.reached.sound) k.seen.table));
     }
 
-fresh_kept : (c : TrackerConfig) (s : List Float) → (made c (length s)).refusal ≡ 0 → Kept (fresh c s)
+fresh_kept : (c : TrackerConfig) (s : List Float) → (made c (length s)).refusal ≡ None → Kept (fresh c s)
 unfolding gather
 fresh_kept c s made-well =
     record {
@@ -111,7 +112,7 @@ fresh_kept c s made-well =
     }
 
 -- from any accepted making, over any list of calls with any inputs
-pub shown : (c : TrackerConfig) (s : List Float) → (made c (length s)).refusal ≡ 0 → (calls : List Call) → Shown (day_of c s calls)
+pub shown : (c : TrackerConfig) (s : List Float) → (made c (length s)).refusal ≡ None → (calls : List Call) → Shown (day_of c s calls)
 unfolding day_of
 shown c s made-well calls =
     let k = (through_hold goes_on Kept calls (fresh c s) kept_on (fresh_kept c s made-well)).seen in

@@ -1,4 +1,5 @@
 -- Rules 14, 20 and 21: the tables that a fresh tracker reaches are sound: a fresh one is, and a sound one is whole.
+use Rattle.std.specs.Prelude.{None}
 use mathlib.Core.Path.{◌≡◌, refl, ◌∙◌, ap}
 use mathlib.Core.Bool.{true, not}
 use mathlib.Core.List.{List}
@@ -59,7 +60,7 @@ module _ {t : Table} (sound : Sound t) where
 
 -- ---- a fresh table is sound
 
-pub sound_fresh : (c : TrackerConfig) (floats : ℕ) → (made c floats).refusal ≡ 0 → Sound (made c floats).table
+pub sound_fresh : (c : TrackerConfig) (floats : ℕ) → (made c floats).refusal ≡ None → Sound (made c floats).table
 unfolding made lists_whole names_below
 sound_fresh c floats none_due =
     let a = accepted (settled c) floats none_due in

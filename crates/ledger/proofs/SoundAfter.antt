@@ -1,4 +1,5 @@
 -- Rules 11, 14 and 75: every public call, accepted or refused, keeps its table sound, and so does any sequence of them from a fresh tracker.
+use Rattle.std.specs.Prelude.{None}
 use mathlib.Core.Path.{◌≡◌}
 use mathlib.Core.List.{List}
 use Prim.Native.Nat.{ℕ, ◌+◌, ◌≤◌}
@@ -22,7 +23,7 @@ use Rattle.ledger.proofs.SoundIssued.{Unspent, unspent_fresh, unspent_predict, u
 abbrev pub IssuedWithin : Table → Type 0
 IssuedWithin t = t.counts.permanent ≤ t.counts.opened + 1
 
-sound_done : (call : Call) (w : World) → Sound w.table → refusal_of call w ≡ 0 → IssuedWithin (done call w).table → Sound (done call w).table
+sound_done : (call : Call) (w : World) → Sound w.table → refusal_of call w ≡ None → IssuedWithin (done call w).table → Sound (done call w).table
 sound_done predict w sound accepted i = sound_predict w.table w.storage sound accepted
 sound_done (match n f l) w sound accepted i = sound_match w.table w.storage n f (length l) sound accepted i
 sound_done (reid ds l) w sound accepted i = sound_reid w.table w.storage ds sound
@@ -38,7 +39,7 @@ pub record Reached (t : Table) : Type 0 where
   pub sound : Sound t
   pub unspent : Unspent t
 
-pub reached_fresh : (c : TrackerConfig) (floats : ℕ) → (made c floats).refusal ≡ 0 → Reached (made c floats).table
+pub reached_fresh : (c : TrackerConfig) (floats : ℕ) → (made c floats).refusal ≡ None → Reached (made c floats).table
 reached_fresh c floats none = record { sound = sound_fresh c floats none; unspent = unspent_fresh c floats none }
 
 unspent_done : (call : Call) (w : World) → w.table.counts.records ≤ length w.table.records → Unspent w.table → Unspent (done call w).table
@@ -54,7 +55,7 @@ reached_after call w r =
     record { sound = sound_after call w r.sound (omega (arith, kept)); unspent = kept }
 
 -- any sequence of calls
-pub reached_day : (c : TrackerConfig) (s : List Float) (calls : List Call) → (made c (length s)).refusal ≡ 0 → Reached (day_of c s calls).world.table
+pub reached_day : (c : TrackerConfig) (s : List Float) (calls : List Call) → (made c (length s)).refusal ≡ None → Reached (day_of c s calls).world.table
 unfolding day_of goes_on
 reached_day c s calls none =
     through_hold goes_on (λ d. Reached d.world.table) calls (fresh c s) (λ call d. reached_after call d.world) (reached_fresh c (length s) none)

@@ -1,4 +1,5 @@
 -- Rules 14, 32, 45, 46, 61 and 62: a record opened is sound, and a sound record stays so as it is hit, merged and predicted.
+use Rattle.std.specs.Prelude.{Option, Some, None}
 use mathlib.Core.Path.{◌≡◌, refl, ◌∙◌}
 use mathlib.Core.Bool.{Bool, true, false, cond}
 use mathlib.Core.List.{List, [], ◌∷◌}
@@ -8,7 +9,7 @@ use native.Mathlib.Omega.{arith}
 use borrow.Author.Tests.{ltb-true, ltb-false}
 use lib.Dec.{ltb}
 use lib.Ieee.{Float}
-use lib.IntN.{ℤ, pos, negsuc, ◌+ℤ◌}
+use lib.IntN.{ℤ, pos, ◌+ℤ◌}
 use lib.ListN.{length, get_or-replicate}
 use lib.Signed.{le_z, lt_z}
 use Rattle.laws.specs.Every.{none, one}
@@ -16,7 +17,6 @@ use Rattle.laws.proofs.Every.{every_append, every_weaker, every_drop}
 use Rattle.laws.proofs.Turns.{turns_hold}
 use Rattle.parts.specs.declared.Life.{Life}
 use Rattle.parts.specs.declared.PastDetection.{PastDetection}
-use Rattle.parts.specs.declared.ReidCounter.{ReidCounter}
 use Rattle.parts.specs.declared.TrackedObject.{TrackedObject}
 use Rattle.parts.specs.declared.TrackerConfig.{TrackerConfig}
 use Rattle.parts.specs.Life.{raised, promotes, promoted, raised_only, life_predicted, life_hit, life_opened}
@@ -26,12 +26,12 @@ use Rattle.parts.proofs.PastLaws.{length-pushed, history_after}
 use Rattle.parts.proofs.PointLaws as points
 use Rattle.tracked_object.specs.Object.{Detection, object_predicted, object_hit, object_opened, object_merged, History, takes, added, conditionally_added, mark_of, entry_of, history_merged}
 use Rattle.tracked_object.proofs.MergeLaws.{some_of}
-use Rattle.table.specs.Ranges.{reid_between, delay_negative}
+use Rattle.table.specs.Ranges.{optional_between, delay_negative}
 use Rattle.table.proofs.Chain.{parts}
 use Rattle.table.proofs.Facts.{SettingsFacts}
 use Rattle.predict.specs.Step.{gone}
-use Rattle.ledger.proofs.SoundCounters.{AtMost, most_more, above, fallen_most, raised_least, smaller_most, least_more, counters_raised, counters_cleared, counters_predicted}
-use Rattle.ledger.proofs.SoundRecord.{Aged, SoundLife, SoundMarks, SoundRecord}
+use Rattle.ledger.proofs.SoundCounters.{AtMost, above, fallen_most, raised_least, smaller_most, least_more, counters_raised, counters_cleared, counters_predicted}
+use Rattle.ledger.proofs.SoundRecord.{Aged, aged_on, SoundLife, SoundMarks, SoundRecord}
 
 -- ---- the history
 
@@ -64,7 +64,7 @@ sound_opened c frames d period global_id initializing_id next few some most =
 
 -- ---- hit
 
-module _ (period : ℕ) (maximum delay : ℤ) (reid_max : ReidCounter) (next frames : ℕ) (l : Life)
+module _ (period : ℕ) (maximum delay : ℤ) (reid_max : Option ℤ) (next frames : ℕ) (l : Life)
     (from : le_z (pos 0) maximum ≡ true) (most : le_z maximum (pos 10000) ≡ true) (delayed : lt_z delay (pos 0) ≡ false)
     (old : SoundLife reid_max frames l) where
   raised_most : AtMost 10000 (raised period maximum l)
@@ -117,8 +117,8 @@ sound_hit c frames d period distance next o facts from delayed old =
           points.hit_in_range c.points d.has_scores c.detection_threshold d.scores period c.pointwise_hit_counter_max o.point_hit_counter
           facts.pointwise c.points old.points;
       marks =
-          marks_hit_lem c frames o.past_count (record { age = negsuc 0; has_scores = d.has_scores }) o.past
-          (ltb 0 c.past_detections_length) refl facts.history (omega arith, tt) old.marks;
+          marks_hit_lem c frames o.past_count (record { age = None; has_scores = d.has_scores }) o.past
+          (ltb 0 c.past_detections_length) refl facts.history tt old.marks;
     }
 
 -- ---- merged
@@ -130,7 +130,7 @@ module _ (c : TrackerConfig) (few : c.past_detections_length ≤ 8) (frames age 
   marks_added has entry h old = go (takes c age h.marks h.count) refl
     where
       go : (b : Bool) → takes c age h.marks h.count ≡ b → SoundMarks c frames (cond b (added c age has entry h) h).count (cond b (added c age has entry h) h).marks
-      go true e = marks_pushed c frames h.count (record { age = pos age; has_scores = has }) h.marks few (some_of _ _ e) (tt, young) old
+      go true e = marks_pushed c frames h.count (record { age = Some (pos age); has_scores = has }) h.marks few (some_of _ _ e) young old
       go false e = old
 
   marks_merged : (candidate : TrackedObject) (from : List Float) (h : History) → SoundMarks c frames h.count h.marks
@@ -155,7 +155,7 @@ sound_merged c frames candidate from o l few seen old =
 
 -- ---- predicted, of a record that is not dropped: a frame more has begun
 
-pub sound_predicted : (c : TrackerConfig) (frames : ℕ) (o : TrackedObject) → reid_between (pos 0) c.reid_hit_counter_max (pos 10000) ≡ true
+pub sound_predicted : (c : TrackerConfig) (frames : ℕ) (o : TrackedObject) → optional_between (pos 0) c.reid_hit_counter_max (pos 10000) ≡ true
     → gone c o ≡ false → SoundRecord c frames o → SoundRecord c (frames + 1) (object_predicted c o)
 unfolding object_predicted life_predicted
 sound_predicted c frames o range stays old =
@@ -172,6 +172,6 @@ sound_predicted c frames o range stays old =
           record {
             counted = old.marks.counted;
             eight = old.marks.eight;
-            aged = every_weaker (λ e h. (h.0, most_more e.age (omega arith) h.1)) old.marks.aged;
+            aged = every_weaker (λ e h. aged_on frames e.age h) old.marks.aged;
           };
     }

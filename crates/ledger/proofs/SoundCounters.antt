@@ -1,4 +1,5 @@
 -- Rules 14, 32, 45 and 46: how far the hit counter and the ReID counter of a record go up and down, by sign.
+use Rattle.std.specs.Prelude.{Option, Some, None}
 use mathlib.Core.Path.{◌≡◌, refl, sym, ap}
 use mathlib.Core.Bool.{Bool, true, false, true≢false, cond}
 use mathlib.Core.List.{[], ◌∷◌}
@@ -8,11 +9,9 @@ use borrow.Author.Tests.{ltb-true, leb-true, le-leb, le-ltb}
 use lib.Dec.{ltb, leb}
 use lib.IntN.{ℤ, pos, negsuc, ◌+ℤ◌, ◌-ℤ◌}
 use lib.Signed.{le_z, lt_z}
-use Rattle.parts.specs.declared.ReidCounter.{ReidCounter}
-use Rattle.parts.specs.declared.ReidCounter.TheVariants.{Absent, Present}
 use Rattle.parts.specs.declared.TrackedObject.{TrackedObject}
 use Rattle.parts.specs.Life.{smaller_of, reid_predicted, reid_cleared}
-use Rattle.table.specs.Ranges.{signed_between, reid_between}
+use Rattle.table.specs.Ranges.{signed_between, optional_between}
 use Rattle.table.proofs.Chain.{parts}
 use Rattle.predict.specs.Step.{below_zero, gone_by}
 
@@ -123,11 +122,11 @@ Falling r (negsuc zero) h = AtLeast (r + 3) h
 Falling r (negsuc (suc a)) h = ⊥
 
 -- absent: the hit counter at least -1; without a maximum always absent
-abbrev pub Counters : ReidCounter → ReidCounter → ℤ → Type 0
-Counters maximum Absent h = AtLeast 1 h
-Counters Absent (Present v) h = ⊥
-Counters (Present (pos r)) (Present v) h = Falling r v h
-Counters (Present (negsuc r)) (Present v) h = ⊥
+abbrev pub Counters : Option ℤ → Option ℤ → ℤ → Type 0
+Counters maximum None h = AtLeast 1 h
+Counters None (Some v) h = ⊥
+Counters (Some (pos r)) (Some v) h = Falling r v h
+Counters (Some (negsuc r)) (Some v) h = ⊥
 
 falling_raised : (r : ℕ) (v h k : ℤ) → ((n : ℕ) → AtLeast n h → AtLeast n k) → Falling r v h → Falling r v k
 falling_raised r (pos a) h k up f = (f.0, up (r + 2 - a) f.1)
@@ -135,16 +134,16 @@ falling_raised r (negsuc zero) h k up f = up (r + 3) f
 falling_raised r (negsuc (suc a)) h k up f = f
 
 -- a hit counter that is bounded below as another one was
-pub counters_raised : (maximum c : ReidCounter) (h k : ℤ) → ((n : ℕ) → AtLeast n h → AtLeast n k) → Counters maximum c h → Counters maximum c k
-counters_raised maximum Absent h k up f = up 1 f
-counters_raised Absent (Present v) h k up f = f
-counters_raised (Present (pos r)) (Present v) h k up f = falling_raised r v h k up f
-counters_raised (Present (negsuc r)) (Present v) h k up f = f
+pub counters_raised : (maximum c : Option ℤ) (h k : ℤ) → ((n : ℕ) → AtLeast n h → AtLeast n k) → Counters maximum c h → Counters maximum c k
+counters_raised maximum None h k up f = up 1 f
+counters_raised None (Some v) h k up f = f
+counters_raised (Some (pos r)) (Some v) h k up f = falling_raised r v h k up f
+counters_raised (Some (negsuc r)) (Some v) h k up f = f
 
-pub counters_cleared : (maximum c : ReidCounter) (h k : ℤ) → AtLeast 1 k → Counters maximum c h → Counters maximum (reid_cleared c maximum) k
-counters_cleared Absent Absent h k least f = least
-counters_cleared Absent (Present v) h k least f = f
-counters_cleared (Present m) c h k least f = least
+pub counters_cleared : (maximum c : Option ℤ) (h k : ℤ) → AtLeast 1 k → Counters maximum c h → Counters maximum (reid_cleared c maximum) k
+counters_cleared None None h k least f = least
+counters_cleared None (Some v) h k least f = f
+counters_cleared (Some m) c h k least f = least
 
 -- ---- predict
 
@@ -155,40 +154,40 @@ falling_predicted r (pos (suc a)) h from f =
 falling_predicted r (negsuc a) h from f = absurd (true≢false from)
 
 -- no ReID maximum: a hit counter that is not below 0 falls to -1 at most
-without : (c : ReidCounter) (h : ℤ) → lt_z h (pos 0) ≡ false → Counters Absent c h → Counters Absent (reid_predicted c h Absent) (h -ℤ pos 1)
-without Absent h stays f = go (le_z h (pos 0))
+without : (c : Option ℤ) (h : ℤ) → lt_z h (pos 0) ≡ false → Counters None c h → Counters None (reid_predicted c h None) (h -ℤ pos 1)
+without None h stays f = go (le_z h (pos 0))
   where
-    go : (b : Bool) → Counters Absent (cond b Absent Absent) (h -ℤ pos 1)
+    go : (b : Bool) → Counters None (cond b None None) (h -ℤ pos 1)
     go true = fallen_least 0 h (not_below h stays)
     go false = fallen_least 0 h (not_below h stays)
-without (Present v) h stays f = f
+without (Some v) h stays f = f
 
 -- an absent ReID counter starts at the maximum where the hit counter is at most 0
-within : (r : ℕ) (c : ReidCounter) (h : ℤ) → below_zero c ≡ false → Counters (Present (pos r)) c h
-    → Counters (Present (pos r)) (reid_predicted c h (Present (pos r))) (h -ℤ pos 1)
-within r Absent h stays f = go (le_z h (pos 0)) refl
+within : (r : ℕ) (c : Option ℤ) (h : ℤ) → below_zero c ≡ false → Counters (Some (pos r)) c h
+    → Counters (Some (pos r)) (reid_predicted c h (Some (pos r))) (h -ℤ pos 1)
+within r None h stays f = go (le_z h (pos 0)) refl
   where
-    go : (b : Bool) → le_z h (pos 0) ≡ b → Counters (Present (pos r)) (cond b (Present (pos r)) Absent) (h -ℤ pos 1)
+    go : (b : Bool) → le_z h (pos 0) ≡ b → Counters (Some (pos r)) (cond b (Some (pos r)) None) (h -ℤ pos 1)
     go true e = (omega arith, least_more (h -ℤ pos 1) (omega arith) (fallen_least 1 h f))
     go false e = fallen_least 0 h (over_zero h e)
-within r (Present v) h stays f = falling_predicted r v h stays f
+within r (Some v) h stays f = falling_predicted r v h stays f
 
 -- a ReID maximum that is set is not negative, and at most 10,000
-reid_from : {A : Type 0} (r : ℕ) → reid_between (pos 0) (Present (negsuc r)) (pos 10000) ≡ true → A
-unfolding reid_between
+reid_from : {A : Type 0} (r : ℕ) → optional_between (pos 0) (Some (negsuc r)) (pos 10000) ≡ true → A
+unfolding optional_between
 reid_from r range = absurd (true≢false (sym range))
 
-reid_most : (r : ℕ) → reid_between (pos 0) (Present (pos r)) (pos 10000) ≡ true → r ≤ 10000
-unfolding reid_between
+reid_most : (r : ℕ) → optional_between (pos 0) (Some (pos r)) (pos 10000) ≡ true → r ≤ 10000
+unfolding optional_between
 reid_most r range = leb-true r 10000 (parts (leb 0 r) (leb r 10000 ∷ []) range).1
 
 -- of a record that is not dropped
-pub counters_predicted : (maximum : ReidCounter) (o : TrackedObject) → reid_between (pos 0) maximum (pos 10000) ≡ true → gone_by maximum o ≡ false
+pub counters_predicted : (maximum : Option ℤ) (o : TrackedObject) → optional_between (pos 0) maximum (pos 10000) ≡ true → gone_by maximum o ≡ false
     → Counters maximum o.life.reid_hit_counter o.life.hit_counter
     → Counters maximum (reid_predicted o.life.reid_hit_counter o.life.hit_counter maximum) (o.life.hit_counter -ℤ pos 1)
-counters_predicted Absent o range stays f = without o.life.reid_hit_counter o.life.hit_counter stays f
-counters_predicted (Present (pos r)) o range stays f = within r o.life.reid_hit_counter o.life.hit_counter stays f
-counters_predicted (Present (negsuc r)) o range stays f = reid_from r range
+counters_predicted None o range stays f = without o.life.reid_hit_counter o.life.hit_counter stays f
+counters_predicted (Some (pos r)) o range stays f = within r o.life.reid_hit_counter o.life.hit_counter stays f
+counters_predicted (Some (negsuc r)) o range stays f = reid_from r range
 
 -- ---- whole
 
@@ -197,18 +196,18 @@ falling_within r (pos a) h most f = (least_more h (omega arith) f.1, (tt, omega 
 falling_within r (negsuc zero) h most f = (least_more h (omega arith) f, (omega arith, tt))
 falling_within r (negsuc (suc a)) h most f = absurd f
 
-pub counters_low : (maximum c : ReidCounter) (h : ℤ) → reid_between (pos 0) maximum (pos 10000) ≡ true → Counters maximum c h → AtLeast 10003 h
-counters_low maximum Absent h range f = least_more h (omega arith) f
-counters_low Absent (Present v) h range f = absurd f
-counters_low (Present (pos r)) (Present v) h range f = (falling_within r v h (reid_most r range) f).0
-counters_low (Present (negsuc r)) (Present v) h range f = absurd f
+pub counters_low : (maximum c : Option ℤ) (h : ℤ) → optional_between (pos 0) maximum (pos 10000) ≡ true → Counters maximum c h → AtLeast 10003 h
+counters_low maximum None h range f = least_more h (omega arith) f
+counters_low None (Some v) h range f = absurd f
+counters_low (Some (pos r)) (Some v) h range f = (falling_within r v h (reid_most r range) f).0
+counters_low (Some (negsuc r)) (Some v) h range f = absurd f
 
-pub counters_reid : (maximum c : ReidCounter) (h : ℤ) → reid_between (pos 0) maximum (pos 10000) ≡ true → Counters maximum c h
-    → reid_between (negsuc 0) c (pos 10000) ≡ true
-unfolding reid_between
-counters_reid maximum Absent h range f = refl
-counters_reid Absent (Present v) h range f = absurd f
-counters_reid (Present (pos r)) (Present v) h range f =
+pub counters_reid : (maximum c : Option ℤ) (h : ℤ) → optional_between (pos 0) maximum (pos 10000) ≡ true → Counters maximum c h
+    → optional_between (negsuc 0) c (pos 10000) ≡ true
+unfolding optional_between
+counters_reid maximum None h range f = refl
+counters_reid None (Some v) h range f = absurd f
+counters_reid (Some (pos r)) (Some v) h range f =
     let b = (falling_within r v h (reid_most r range) f).1 in
     between_is 0 10000 v b.0 b.1
-counters_reid (Present (negsuc r)) (Present v) h range f = absurd f
+counters_reid (Some (negsuc r)) (Some v) h range f = absurd f

@@ -1,4 +1,5 @@
 -- Rules 14, 45 and 46: permanent IDs issued and records that initialize are together at most the records opened: so no more IDs are issued than records were opened.
+use Rattle.std.specs.Prelude.{None}
 use mathlib.Core.Path.{◌≡◌, refl, ◌∙◌}
 use mathlib.Core.Bool.{Bool, true, false, not, cond}
 use mathlib.Core.List.{List, [], ◌∷◌, map}
@@ -47,7 +48,7 @@ Unspent t = t.counts.permanent + initializing_count t ≤ t.counts.opened + 1
 
 -- ---- of a fresh table, and after each step
 
-pub unspent_fresh : (c : TrackerConfig) (floats : ℕ) → (made c floats).refusal ≡ 0 → Unspent (made c floats).table
+pub unspent_fresh : (c : TrackerConfig) (floats : ℕ) → (made c floats).refusal ≡ None → Unspent (made c floats).table
 unfolding weight keep
 unspent_fresh c floats none_due = rw (accepted_fresh c floats none_due) (omega arith)
 

@@ -1,4 +1,5 @@
 -- Rules 14 and 43 to 48: step 2 keeps a table sound, as long as no more permanent IDs are issued than records were opened.
+use Rattle.std.specs.Prelude.{None}
 use mathlib.Core.Path.{◌≡◌, refl, ◌∙◌}
 use mathlib.Core.Bool.{true, false}
 use mathlib.Core.List.{List, [], ◌∷◌}
@@ -45,12 +46,11 @@ record Checked (t : Table) (detections : ℕ) (f : Frame) : Type 0 where
   room : t.counts.records + length (to_open t detections f) ≤ t.config.capacity
   numbers : t.counts.opened + length (to_open t detections f) ≤ 2000000000
 
-checked : (t : Table) (s : List Float) (detections : ℕ) (f : Frame) (places : ℕ) → match_refusal t s detections f places ≡ 0 → Checked t detections f
+checked : (t : Table) (s : List Float) (detections : ℕ) (f : Frame) (places : ℕ) → match_refusal t s detections f places ≡ None → Checked t detections f
 checked t s detections f places none_is =
     let more = length (to_open t detections f) in
     let due =
-    none_due (match_checks t (length s) detections f places more)
-    (omega arith, (omega arith, (omega arith, (omega arith, (omega arith, (omega arith, (omega arith, (omega arith, (omega arith, (omega arith, tt)))))))))) none_is in
+    none_due (match_checks t (length s) detections f places more) none_is in
     let period = parts (leb 1 f.period) (leb f.period 1000 ∷ []) (not-false _ due.1.1.1.0) in
     record {
       some = leb-true 1 f.period period.0;
@@ -80,7 +80,7 @@ module _ (c : TrackerConfig) (f : Frame) (frames : ℕ) where
 
 -- ---- the step
 
-module _ (t : Table) (s : List Float) (detections : ℕ) (f : Frame) (places : ℕ) (sound : Sound t) (none_is : match_refusal t s detections f places ≡ 0) where
+module _ (t : Table) (s : List Float) (detections : ℕ) (f : Frame) (places : ℕ) (sound : Sound t) (none_is : match_refusal t s detections f places ≡ None) where
   passed : Checked t detections f
   passed = checked t s detections f places none_is
 

@@ -1,4 +1,5 @@
 -- Rules 14 and 30 to 33: step 1 keeps a table sound.
+use Rattle.std.specs.Prelude.{None}
 use mathlib.Core.Path.{◌≡◌, ◌∙◌}
 use mathlib.Core.Bool.{Bool, true, not}
 use mathlib.Core.List.{List}
@@ -52,10 +53,10 @@ module _ (t : Table) (s : List Float) (sound : Sound t) where
   placed_whole sort =
       list_whole_lem (kept_distinct (λ i. belongs t.config sort (get_or (objects_of (slots_kept t s)) i zero_object)) (length (slots_kept t s)) (omega (arith, kept_few, sound_fit sound)))
 
-  pub sound_predict : first_due (predict_checks t (length s)) ≡ 0 → Sound (predict_table t s)
+  pub sound_predict : first_due (predict_checks t (length s)) ≡ None → Sound (predict_table t s)
   unfolding predict_table
   sound_predict none =
-      let due = none_due (predict_checks t (length s)) (omega arith, (omega arith, (omega arith, (omega arith, tt)))) none in
+      let due = none_due (predict_checks t (length s)) none in
       let n = sound.counts in
       let same = predicted_length t.config (slots_kept t s) in
       record {

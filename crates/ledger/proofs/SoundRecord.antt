@@ -1,31 +1,48 @@
 -- Rule 14: a record that a fresh tracker reaches is sound, and a sound record is whole.
-use mathlib.Core.Path.{◌≡◌, ap}
+use Rattle.std.specs.Prelude.{Option, Some, None}
+use mathlib.Core.Path.{◌≡◌, refl, ap}
 use mathlib.Core.Bool.{true, not}
 use mathlib.Core.List.{List}
-use Prim.Native.Nat.{ℕ, ◌≤◌}
+use Prim.Native.Nat.{ℕ, ◌+◌, ◌≤◌}
 use native.Mathlib.Omega.{arith}
 use borrow.Author.Tests.{le-leb, le-ltb}
 use lib.Dec.{ltb}
-use lib.IntN.{pos, negsuc}
+use lib.IntN.{ℤ, pos, negsuc}
 use lib.ListN.{length, take}
 use Rattle.laws.specs.Every.{Every}
 use Rattle.laws.proofs.Every.{every_weaker, none_found, every_first}
 use Rattle.parts.specs.declared.Life.{Life}
 use Rattle.parts.specs.declared.PastDetection.{PastDetection}
-use Rattle.parts.specs.declared.ReidCounter.{ReidCounter}
 use Rattle.parts.specs.declared.TrackedObject.{TrackedObject}
 use Rattle.parts.specs.declared.TrackerConfig.{TrackerConfig}
 use Rattle.parts.specs.Ranges.{PointsInRange}
-use Rattle.table.specs.Ranges.{signed_between, reid_between}
+use Rattle.table.specs.Ranges.{optional_between}
 use Rattle.table.specs.Wholeness.{points_whole, ages_whole, record_whole}
-use Rattle.ledger.proofs.SoundCounters.{AtLeast, AtMost, Counters, most_more, between_is, least_more, counters_low, counters_reid}
+use Rattle.ledger.proofs.SoundCounters.{AtMost, Counters, most_more, between_is, least_more, counters_low, counters_reid}
 use Rattle.ledger.proofs.SoundTests.{◌also◌, between_whole}
 
 -- absent, or not negative and at most the frames begun
-abbrev pub Aged : ℕ → PastDetection → Type 0
-Aged frames e = AtLeast 1 e.age × AtMost frames e.age
+abbrev pub AgedAt : ℕ → Option ℤ → Type 0
+AgedAt frames None = Unit {0}
+AgedAt frames (Some (pos age)) = age ≤ frames
+AgedAt frames (Some (negsuc age)) = ⊥
 
-pub record SoundLife (maximum : ReidCounter) (frames : ℕ) (l : Life) : Type 0 where
+abbrev pub Aged : ℕ → PastDetection → Type 0
+Aged frames e = AgedAt frames e.age
+
+aged_whole : (frames : ℕ) (age : Option ℤ) → AgedAt frames age → optional_between (pos 0) age (pos frames) ≡ true
+unfolding optional_between
+aged_whole frames None h = refl
+aged_whole frames (Some (pos age)) h = le-leb 0 age (omega arith) also le-leb age frames h
+aged_whole frames (Some (negsuc age)) h = absurd h
+
+-- a frame more
+pub aged_on : (frames : ℕ) (age : Option ℤ) → AgedAt frames age → AgedAt (frames + 1) age
+aged_on frames None h = h
+aged_on frames (Some (pos age)) h = omega arith
+aged_on frames (Some (negsuc age)) h = h
+
+pub record SoundLife (maximum : Option ℤ) (frames : ℕ) (l : Life) : Type 0 where
   pub age : l.age ≤ frames
   pub most : AtMost 10000 l.hit_counter
   pub counters : Counters maximum l.reid_hit_counter l.hit_counter
@@ -43,7 +60,7 @@ pub record SoundRecord (c : TrackerConfig) (frames : ℕ) (o : TrackedObject) : 
 
 -- ---- whole
 
-pub sound_record_whole : (c : TrackerConfig) (frames : ℕ) (o : TrackedObject) → reid_between (pos 0) c.reid_hit_counter_max (pos 10000) ≡ true
+pub sound_record_whole : (c : TrackerConfig) (frames : ℕ) (o : TrackedObject) → optional_between (pos 0) c.reid_hit_counter_max (pos 10000) ≡ true
     → SoundRecord c frames o → record_whole c frames o ≡ true
 unfolding record_whole points_whole ages_whole
 sound_record_whole c frames o range s =
@@ -55,5 +72,5 @@ sound_record_whole c frames o range s =
     also counters_reid c.reid_hit_counter_max l.reid_hit_counter l.hit_counter range s.life.counters
     also between_whole 1 o.origin.initial_period 1000 s.period.0 s.period.1
     also le-leb _ _ s.marks.counted
-    also none_found (λ e. not (signed_between (negsuc 0) e.age (pos frames)))
-    (every_weaker (λ e h. ap not (between_is 0 frames e.age h.0 h.1)) s.marks.aged)
+    also none_found (λ e. not (optional_between (pos 0) e.age (pos frames)))
+    (every_weaker (λ e h. ap not (aged_whole frames e.age h)) s.marks.aged)

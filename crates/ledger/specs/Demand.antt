@@ -1,11 +1,11 @@
 -- Rule 75, demand 3: from a fresh tracker, over any sequence of calls, after each call: it is stated of the day after any list of calls, so also after each call of a list.
-use Rattle.std.specs.Prelude.{◌≡◌, not, cond, List, [], ◌∷◌, ◌++◌, map, ℕ, ◌≤◌, eqb, length}
+use Rattle.std.specs.Prelude.{◌≡◌, not, cond, List, [], ◌∷◌, ◌++◌, map, ℕ, ◌≤◌, eqb, length, Result, Ok}
 use Rattle.laws.specs.Every.{Every}
 use Rattle.laws.specs.Lists.{below, keep, holds, times, up_from}
+use Rattle.table.specs.declared.refusals.Refusal.{Refusal}
 use Rattle.table.specs.Slots.{table_names}
 use Rattle.matching_step.specs.Account.{Opened, Issue, hit_names, opened_names, issued_numbers, issued_names}
 use Rattle.reid.specs.Step.{Absorbed, absorbed_names}
-use Rattle.tracker.specs.declared.Count.{Count}
 use Rattle.tracker.specs.Calls.{total_answer}
 use Rattle.ledger.specs.History.{Entry, Day}
 
@@ -59,7 +59,7 @@ abbrev pub ever_issued : Day → List Issue
 ever_issued d = issued_in (entries d)
 
 -- what total_object_count answers at that moment
-abbrev pub reported : Day → Count
+abbrev pub reported : Day → Result ℕ Refusal
 reported d = total_answer d.world.table
 
 -- ---- of one call: the detections that hit or opened, the records hit, those hit or opened, and who left the table in a step
@@ -99,4 +99,4 @@ pub record Demand (d : Day) : Type 0 where
   pub holders : Once (issued_names (ever_issued d))
   pub holders_opened : Among (issued_names (ever_issued d)) (ever_opened d)
   -- and the total reported is n
-  pub total : reported d ≡ record { refusal = 0; count = length (ever_issued d) }
+  pub total : reported d ≡ Ok (length (ever_issued d))

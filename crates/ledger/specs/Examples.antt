@@ -1,5 +1,5 @@
 -- Rules 14, 32, 61, 63 and 75: small tables to run the definitions on.
-use Rattle.std.specs.Prelude.{true, false, List, [], ◌∷◌, ℕ, ℤ, pos, negsuc, replicate, Float}
+use Rattle.std.specs.Prelude.{true, false, List, [], ◌∷◌, ℕ, ℤ, pos, negsuc, replicate, Float, Option, Some, None}
 use Rattle.std.specs.Float.{binary64, nan}
 use Rattle.std.specs.Float.Ieee.{of_bits}
 use Rattle.laws.specs.Float64.{f0, f1}
@@ -8,9 +8,6 @@ use Rattle.filter.specs.Settings.{defaults}
 use Rattle.parts.specs.declared.TrackerConfig.{TrackerConfig}
 use Rattle.parts.specs.declared.TrackedObject.{TrackedObject}
 use Rattle.parts.specs.declared.Life.{Life}
-use Rattle.parts.specs.declared.PermanentId.TheVariants.{Unissued}
-use Rattle.parts.specs.declared.ReidCounter.{ReidCounter}
-use Rattle.parts.specs.declared.ReidCounter.TheVariants.{Absent, Present}
 use Rattle.table.specs.declared.Table.{Table}
 use Rattle.table.specs.declared.Phase.TheVariants.{Predict, Reid}
 use Rattle.table.specs.Making.{zero_object, no_numbers, no_lists, candidates_of}
@@ -20,7 +17,7 @@ use Rattle.matching_step.specs.Step.{no_pair}
 use Rattle.ledger.specs.History.{Call, predict, match, reid, World}
 
 -- one point of one coordinate, room for so many records, no history; a ReID maximum or none; a ReID distance declared; thresholds 1
-abbrev pub settings_with : ℕ → ReidCounter → TrackerConfig
+abbrev pub settings_with : ℕ → Option ℤ → TrackerConfig
 settings_with capacity maximum =
     record {
       points = 1;
@@ -39,7 +36,7 @@ settings_with capacity maximum =
     }
 
 abbrev pub settings : ℕ → TrackerConfig
-settings capacity = settings_with capacity Absent
+settings capacity = settings_with capacity None
 
 abbrev pub half : Float
 half = of_bits binary64 0x3fe0_0000_0000_0000
@@ -81,12 +78,12 @@ floats = replicate 16 f0
 
 -- ---- altered tables of one record, before step 1: whole, and no longer so when its counters have fallen
 
-abbrev pub alone : ReidCounter → ℤ → ReidCounter → World
+abbrev pub alone : Option ℤ → ℤ → Option ℤ → World
 alone maximum hit counter =
     record {
       table =
           record {
-            records = living 1 (record { age = 0; hit_counter = hit; reid_hit_counter = counter; is_initializing = false; id = Unissued }) ∷ [];
+            records = living 1 (record { age = 0; hit_counter = hit; reid_hit_counter = counter; is_initializing = false; id = None }) ∷ [];
             config = settings_with 1 maximum;
             counts = record { records = 1; frames = 1; opened = 1; permanent = 1; global = 2; initializing = 2 };
             phase = Predict;
@@ -97,11 +94,11 @@ alone maximum hit counter =
 
 -- a hit counter of -20,000, and a ReID maximum, so that it stays
 abbrev pub lowest_hit : World
-lowest_hit = alone (Present (pos 10)) (negsuc 19999) Absent
+lowest_hit = alone (Some (pos 10)) (negsuc 19999) None
 
 -- a ReID counter of -1 without a ReID maximum, and a hit counter of 0, so that it stays
 abbrev pub lowest_reid : World
-lowest_reid = alone Absent (pos 0) (Present (negsuc 0))
+lowest_reid = alone None (pos 0) (Some (negsuc 0))
 
 -- ---- a day with room for one record: a fish opened; then two strange ones, which are one too many; then the first alone, hit
 

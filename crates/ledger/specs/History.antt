@@ -1,7 +1,8 @@
 -- Rule 75: a sequence of public calls from a fresh tracker, with any inputs, and the history of what each did by its own definition, grouped by frame.
-use Rattle.std.specs.Prelude.{Bool, cond, List, [], ◌∷◌, ◌++◌, ℕ, eqb, length, Float}
+use Rattle.std.specs.Prelude.{Bool, cond, List, [], ◌∷◌, ◌++◌, ℕ, eqb, length, Float, Option, is_none}
 use Rattle.laws.specs.Turns.{through}
 use Rattle.parts.specs.declared.TrackerConfig.{TrackerConfig}
+use Rattle.table.specs.declared.refusals.Refusal.{Refusal}
 use Rattle.table.specs.declared.Table.{Table}
 use Rattle.table.specs.Making.{made}
 use Rattle.table.specs.Refusals.{first_due, count_checks}
@@ -49,8 +50,8 @@ after (reid d l) w =
 after total w = w
 after current w = w
 
--- the number that a call is refused with; 0 if it is accepted
-abbrev pub refusal_of : Call → World → ℕ
+-- what a call is refused with, if it is
+abbrev pub refusal_of : Call → World → Option Refusal
 refusal_of predict w = predict_refusal w.table w.storage
 refusal_of (match n f l) w = match_refusal w.table w.storage n f (length l)
 refusal_of (reid d l) w = reid_refusal w.table w.storage d (length l)
@@ -137,7 +138,7 @@ did current w u = nothing w
 
 -- a refused call did nothing
 unfoldable pub entry_of : Call → World → Entry
-entry_of call w = cond (eqb (refusal_of call w) 0) (did call w (after call w)) (nothing w)
+entry_of call w = cond (is_none (refusal_of call w)) (did call w (after call w)) (nothing w)
 
 -- ---- the history: frames in order, each with the entries of its calls
 

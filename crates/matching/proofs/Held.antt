@@ -4,11 +4,11 @@ use mathlib.Core.Bool.{Bool, true}
 use mathlib.Core.List.{List, [], ◌∷◌, ◌++◌, map, append_assoc, append-nil, map-append}
 use Prim.Native.Nat.{ℕ, zero, suc, ◌+◌, ◌-◌, ◌<◌, ◌≤◌}
 use native.Mathlib.Omega.{arith}
-use lib.ListN.{length, set, replicate, length-map}
+use lib.ListN.{length, set, length-map}
 use Rattle.laws.specs.Lists.{padded}
 use Rattle.laws.proofs.Growing.{length_snoc, filled_next}
 use Rattle.matching.specs.declared.Picks.{Picks}
-use Rattle.matching.specs.declared.Place.TheVariants.{At, Nothing}
+use Rattle.std.specs.Prelude.{Some, None}
 use Rattle.matching.specs.Greedy.{Matrix, Pick, rows_of, cols_of, next_pick, greedy, picks}
 use Rattle.matching.specs.Lent.{picks_of}
 
@@ -16,12 +16,12 @@ abbrev pick : ℕ → ℕ → Pick
 pick i j = record { row = i; col = j }
 
 -- a turn of `greedy` that finds a pick, and one that finds none
-pub greedy-picks : (m : Matrix) (k : ℕ) (ur uc : List Bool) (i j : ℕ) → next_pick m ur uc ≡ At i j
+pub greedy-picks : (m : Matrix) (k : ℕ) (ur uc : List Bool) (i j : ℕ) → next_pick m ur uc ≡ Some (i, j)
     → greedy m (suc k) ur uc ≡ pick i j ∷ greedy m k (set ur i true) (set uc j true)
 unfolding greedy
 greedy-picks m k ur uc i j e = rw e
 
-pub greedy_ends : (m : Matrix) (k : ℕ) (ur uc : List Bool) → next_pick m ur uc ≡ Nothing → greedy m k ur uc ≡ []
+pub greedy_ends : (m : Matrix) (k : ℕ) (ur uc : List Bool) → next_pick m ur uc ≡ None → greedy m k ur uc ≡ []
 unfolding greedy
 greedy_ends m zero ur uc e = refl
 greedy_ends m (suc k) ur uc e = rw e
@@ -39,12 +39,7 @@ snoc : (f : Pick → ℕ) (l : List Pick) (p : Pick) (n : ℕ) (xs : List ℕ) �
 snoc f l p n xs c h e = rw (map-append f l (p ∷ []), e) (filled_next 32 0 (map f l) (f p) (length-map l f ∙ sym c) h)
 
 module _ (m : Matrix) (ur₀ uc₀ : List Bool) where
-  pub held_first : Held m ur₀ uc₀ 0 ur₀ uc₀ (replicate 32 0) (replicate 32 0)
-  held_first =
-      let all : m.rows ≡ m.rows - 0 = omega arith in
-      record { done = []; count = refl; at_rows = refl; at_cols = refl; rest = ap (λ (k : ℕ). greedy m k ur₀ uc₀) all }
-
-  pub held_next : {n : ℕ} {ur uc : List Bool} {rs cs : List ℕ} (i j : ℕ) → n < m.rows → m.rows ≤ 32 → next_pick m ur uc ≡ At i j
+  pub held_next : {n : ℕ} {ur uc : List Bool} {rs cs : List ℕ} (i j : ℕ) → n < m.rows → m.rows ≤ 32 → next_pick m ur uc ≡ Some (i, j)
       → Held m ur₀ uc₀ n ur uc rs cs → Held m ur₀ uc₀ (n + 1) (set ur i true) (set uc j true) (set rs n i) (set cs n j)
   held_next {n} {ur} {uc} {rs} {cs} i j h few e held =
       let l = held.done in
@@ -61,8 +56,8 @@ module _ (m : Matrix) (ur₀ uc₀ : List Bool) where
             ∙ sym (append_assoc l (pick i j ∷ []) (greedy m (m.rows - (n + 1)) (set ur i true) (set uc j true)));
       }
 
-  pub held_last : {n : ℕ} {ur uc : List Bool} {rs cs : List ℕ} → greedy m (m.rows - n) ur uc ≡ [] → Held m ur₀ uc₀ n ur uc rs cs
-      → ◌≡◌ {A = Picks} (record { rows = rs; cols = cs; count = n }) (picks_of (picks m ur₀ uc₀))
-  held_last {n} {ur} {uc} {rs} {cs} e held =
+  pub held_last : {n : ℕ} {ur uc : List Bool} (p : Picks) → p.count ≡ n → greedy m (m.rows - n) ur uc ≡ [] → Held m ur₀ uc₀ n ur uc p.rows p.cols
+      → p ≡ picks_of (picks m ur₀ uc₀)
+  held_last {n} {ur} {uc} p k e held =
       let all : picks m ur₀ uc₀ ≡ held.done = held.rest ∙ ap (λ (r : List Pick). held.done ++ r) e ∙ append-nil held.done in
-      rw (all, held.count, held.at_rows, held.at_cols)
+      rw (all, k, held.count, held.at_rows, held.at_cols)

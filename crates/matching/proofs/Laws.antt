@@ -7,17 +7,16 @@ use native.Mathlib.Omega.{arith}
 use lib.ListN.{length, set, length-map}
 use Rattle.laws.specs.Lists.{times}
 use Rattle.laws.specs.Turns.{through}
-use Rattle.matching.specs.declared.Place.{Place}
-use Rattle.matching.specs.declared.Place.TheVariants.{At, Nothing}
-use Rattle.matching.specs.Greedy.{Matrix, free, marked, eligible, next_pick, Pick, rows_of, cols_of, pick_then, greedy, picks}
+use Rattle.std.specs.Prelude.{Some, None}
+use Rattle.matching.specs.Greedy.{Place, Matrix, free, marked, eligible, next_pick, Pick, rows_of, cols_of, pick_then, greedy, picks}
 use Rattle.matching.proofs.NextPick.{Finite, FirstSmallest, Pickable, eligible_parts, next_is_pickable, next_is_first_smallest, next_is_none}
 use Rattle.matching.proofs.Taken.{free_below, free_below_at_most, falls, free-before, Taken, none, next, taken_at_most, taken_once, used_not_taken, past_not_taken}
 
 -- l is what at most k turns pick, from these flags on: the laws are proved by going along it
 data Run (m : Matrix) : ℕ → List Bool → List Bool → List Pick → Type 0 where
   out_of_turns : {ur uc : List Bool} → Run m 0 ur uc []
-  no_place : {k : ℕ} {ur uc : List Bool} → next_pick m ur uc ≡ Nothing → Run m (suc k) ur uc []
-  pick : {k : ℕ} {ur uc : List Bool} {p : Pick} {l : List Pick} → next_pick m ur uc ≡ At p.row p.col
+  no_place : {k : ℕ} {ur uc : List Bool} → next_pick m ur uc ≡ None → Run m (suc k) ur uc []
+  pick : {k : ℕ} {ur uc : List Bool} {p : Pick} {l : List Pick} → next_pick m ur uc ≡ Some (p.row, p.col)
       → Run m k (set ur p.row true) (set uc p.col true) l → Run m (suc k) ur uc (p ∷ l)
 
 greedy_run : (m : Matrix) (k : ℕ) (ur uc : List Bool) → Run m k ur uc (greedy m k ur uc)
@@ -27,13 +26,13 @@ greedy_run m (suc k) ur uc = go (next_pick m ur uc) refl (greedy_run m k)
   where
     go : (q : Place) → next_pick m ur uc ≡ q → ((vr vc : List Bool) → Run m k vr vc (greedy m k vr vc))
         → Run m (suc k) ur uc (pick_then q (λ i j. greedy m k (set ur i true) (set uc j true)))
-    go Nothing e rest = no_place e
-    go (At i j) e rest = pick e (rest (set ur i true) (set uc j true))
+    go None e rest = no_place e
+    go (Some (i, j)) e rest = pick e (rest (set ur i true) (set uc j true))
 
 module _ {m : Matrix} where
   -- the pick after some picks is the next one at the flags that these leave
   run_next : {k : ℕ} (ur uc : List Bool) (before : List Pick) (p : Pick) (after : List Pick) → Run m k ur uc (before ++ (p ∷ after))
-      → next_pick m (marked (rows_of before) ur) (marked (cols_of before) uc) ≡ At p.row p.col
+      → next_pick m (marked (rows_of before) ur) (marked (cols_of before) uc) ≡ Some (p.row, p.col)
   unfolding through
   run_next ur uc [] p after (pick e r) = e
   run_next ur uc (q ∷ before) p after (pick e r) = run_next (set ur q.row true) (set uc q.col true) before p after r
@@ -62,7 +61,7 @@ module _ (m : Matrix) (ur uc : List Bool) where
   run = greedy_run m m.rows ur uc
 
   each_next : (before : List Pick) (p : Pick) (after : List Pick) → picks m ur uc ≡ before ++ (p ∷ after)
-      → next_pick m (marked (rows_of before) ur) (marked (cols_of before) uc) ≡ At p.row p.col
+      → next_pick m (marked (rows_of before) ur) (marked (cols_of before) uc) ≡ Some (p.row, p.col)
   each_next before p after e = run_next ur uc before p after (rw e at run)
 
   pub each_first_smallest : Finite m → (before : List Pick) (p : Pick) (after : List Pick) → picks m ur uc ≡ before ++ (p ∷ after)

@@ -10,9 +10,8 @@ use native.Mathlib.Omega.{arith}
 use lib.Ieee.{lt}
 use Rattle.laws.specs.Float64.{finite}
 use Rattle.laws.proofs.FloatOrder.{lt_irreflexive, lt_asymmetric, lt_cotransitive}
-use Rattle.matching.specs.declared.Place.{Place}
-use Rattle.matching.specs.declared.Place.TheVariants.{At, Nothing}
-use Rattle.matching.specs.Greedy.{Matrix, free, eligible, smaller, look, scan_row, scan_rows, next_pick}
+use Rattle.std.specs.Prelude.{Some, None}
+use Rattle.matching.specs.Greedy.{Place, Matrix, free, eligible, smaller, look, scan_row, scan_rows, next_pick}
 
 -- (a, b) stands before (i, j) in row-major order
 abbrev pub Before : ℕ → ℕ → ℕ → ℕ → Type 0
@@ -93,8 +92,8 @@ module _ (m : Matrix) (ur uc : List Bool) where
 
   -- the scan's invariant, when it comes to (i, j)
   abbrev Found : ℕ → ℕ → Place → Type 0
-  Found i j (At x y) = Best i j x y
-  Found i j Nothing = AllBefore m i j NotEligible
+  Found i j (Some (x, y)) = Best i j x y
+  Found i j None = AllBefore m i j NotEligible
 
   -- the place found stays where no more of what was looked at is below it
   stays : {i j i' j' x y : ℕ} → (AllBefore m i j (NotBelow x y) → AllBefore m i' j' (NotBelow x y)) → Best i j x y → Best i' j' x y
@@ -132,15 +131,15 @@ module _ (m : Matrix) (ur uc : List Bool) where
   unfolding smaller
   look_found i j hi hj p f = go (eligible m ur uc i j) refl p f
     where
-      compared : (x y : ℕ) → eligible m ur uc i j ≡ true → Best i j x y → (v : Bool) → lt (m.entry i j) (m.entry x y) ≡ v → Found i (suc j) (cond v (At i j) (At x y))
+      compared : (x y : ℕ) → eligible m ur uc i j ≡ true → Best i j x y → (v : Bool) → lt (m.entry i j) (m.entry x y) ≡ v → Found i (suc j) (cond v (Some (i, j)) (Some (x, y)))
       compared x y e f true l = wins i j hi hj e (below_all i j x y f l)
       compared x y e f false l = stays (λ s. one_more m i j (NotBelow x y) s (λ t. l)) f
 
-      go : (e : Bool) → eligible m ur uc i j ≡ e → (p : Place) → Found i j p → Found i (suc j) (cond (e && smaller m.entry (m.entry i j) p) (At i j) p)
-      go false e Nothing f = one_more m i j NotEligible f e
-      go false e (At x y) f = stays (λ s. one_more m i j (NotBelow x y) s (λ t. cc)) f
-      go true e Nothing f = wins i j hi hj e (λ F a b hb h t. cc (f a b hb h))
-      go true e (At x y) f = compared x y e f (lt (m.entry i j) (m.entry x y)) refl
+      go : (e : Bool) → eligible m ur uc i j ≡ e → (p : Place) → Found i j p → Found i (suc j) (cond (e && smaller m.entry (m.entry i j) p) (Some (i, j)) p)
+      go false e None f = one_more m i j NotEligible f e
+      go false e (Some (x, y)) f = stays (λ s. one_more m i j (NotBelow x y) s (λ t. cc)) f
+      go true e None f = wins i j hi hj e (λ F a b hb h t. cc (f a b hb h))
+      go true e (Some (x, y)) f = compared x y e f (lt (m.entry i j) (m.entry x y)) refl
 
   scan_row_found : (i : ℕ) → i < m.rows → (k : ℕ) → k ≤ m.cols → (p : Place) → Found i 0 p → Found i k (scan_row m ur uc i k p)
   unfolding scan_row
@@ -148,8 +147,8 @@ module _ (m : Matrix) (ur uc : List Bool) where
   scan_row_found i hi (suc k) hk p f = look_found i k hi hk (scan_row m ur uc i k p) (scan_row_found i hi k (omega arith) p f)
 
   next_row_found : (i : ℕ) (p : Place) → Found i m.cols p → Found (suc i) 0 p
-  next_row_found i (At x y) f = stays (next_row m i (NotBelow x y)) f
-  next_row_found i Nothing f = next_row m i NotEligible f
+  next_row_found i (Some (x, y)) f = stays (next_row m i (NotBelow x y)) f
+  next_row_found i None f = next_row m i NotEligible f
 
   scan_rows_found : (k : ℕ) → k ≤ m.rows → Found k 0 (scan_rows m ur uc k)
   unfolding scan_rows
@@ -161,21 +160,21 @@ module _ (m : Matrix) (ur uc : List Bool) where
   next_found : (p : Place) → next_pick m ur uc ≡ p → Found m.rows 0 p
   next_found p e = subst (Found m.rows 0) e (scan_rows_found m.rows (le_refl m.rows))
 
-  pub next_is_eligible : {i j : ℕ} → next_pick m ur uc ≡ At i j → eligible m ur uc i j ≡ true
-  next_is_eligible {i} {j} e = (next_found (At i j) e).is_eligible
+  pub next_is_eligible : {i j : ℕ} → next_pick m ur uc ≡ Some (i, j) → eligible m ur uc i j ≡ true
+  next_is_eligible {i} {j} e = (next_found (Some (i, j)) e).is_eligible
 
-  pub next_is_pickable : {i j : ℕ} → next_pick m ur uc ≡ At i j → Pickable m ur uc i j
+  pub next_is_pickable : {i j : ℕ} → next_pick m ur uc ≡ Some (i, j) → Pickable m ur uc i j
   next_is_pickable {i} {j} e =
-      let f = next_found (At i j) e in
+      let f = next_found (Some (i, j)) e in
       let (c, r, s) = eligible_parts m ur uc i j f.is_eligible in
       record { row_in_range = f.row_in_range; col_in_range = f.col_in_range; counted = c; row_free = r; col_free = s }
 
-  pub next_in_range : {i j : ℕ} → next_pick m ur uc ≡ At i j → (i < m.rows) × (j < m.cols)
+  pub next_in_range : {i j : ℕ} → next_pick m ur uc ≡ Some (i, j) → (i < m.rows) × (j < m.cols)
   next_in_range e = let f = next_is_pickable e in (f.row_in_range, f.col_in_range)
 
-  pub next_is_first_smallest : {i j : ℕ} → Finite m → next_pick m ur uc ≡ At i j → FirstSmallest m ur uc i j
+  pub next_is_first_smallest : {i j : ℕ} → Finite m → next_pick m ur uc ≡ Some (i, j) → FirstSmallest m ur uc i j
   next_is_first_smallest {i} {j} F e =
-      let f = next_found (At i j) e in
+      let f = next_found (Some (i, j)) e in
       record {
         row_in_range = f.row_in_range;
         col_in_range = f.col_in_range;
@@ -184,5 +183,5 @@ module _ (m : Matrix) (ur uc : List Bool) where
         first = f.first F;
       }
 
-  pub next_is_none : next_pick m ur uc ≡ Nothing → (a b : ℕ) → a < m.rows → b < m.cols → eligible m ur uc a b ≡ false
-  next_is_none e a b ha hb = next_found Nothing e a b hb (inl ha)
+  pub next_is_none : next_pick m ur uc ≡ None → (a b : ℕ) → a < m.rows → b < m.cols → eligible m ur uc a b ≡ false
+  next_is_none e a b ha hb = next_found None e a b hb (inl ha)

@@ -1,10 +1,12 @@
 -- Rule 42: the smallest counting entry whose row and column are free, ties in row-major order; mark both used; until none is left.
 -- What counts and what an entry is are parameters, so that a further condition on what counts changes nothing here.
-use Rattle.std.specs.Prelude.{Bool, true, false, not, ◌&&◌, cond, List, [], ◌∷◌, map, ℕ, zero, suc, get_or, set, Float}
+use Rattle.std.specs.Prelude.{Bool, true, false, not, ◌&&◌, cond, List, [], ◌∷◌, map, ℕ, zero, suc, get_or, set, Float, Option, Some, None}
 use Rattle.std.specs.Float.Ieee.{lt}
 use Rattle.laws.specs.Turns.{through}
-use Rattle.matching.specs.declared.Place.{Place}
-use Rattle.matching.specs.declared.Place.TheVariants.{At, Nothing}
+
+-- a row and a column, or nothing
+abbrev pub Place : Type 0
+Place = Option (ℕ × ℕ)
 
 -- a matrix of that many rows and columns, its entries, and which of them count
 pub record Matrix : Type 0 where
@@ -30,12 +32,12 @@ eligible m ur uc i j = m.counts i j && (free ur i && free uc j)
 
 -- whether x is strictly smaller than the entry at the place found so far; any is where none was found
 unfoldable pub smaller : (ℕ → ℕ → Float) → Float → Place → Bool
-smaller entry x Nothing = true
-smaller entry x (At a b) = lt x (entry a b)
+smaller entry x None = true
+smaller entry x (Some (a, b)) = lt x (entry a b)
 
 -- the place found once (i, j) was looked at: a tie keeps the earlier one
 abbrev pub look : Matrix → List Bool → List Bool → ℕ → ℕ → Place → Place
-look m ur uc i j p = cond (eligible m ur uc i j && smaller m.entry (m.entry i j) p) (At i j) p
+look m ur uc i j p = cond (eligible m ur uc i j && smaller m.entry (m.entry i j) p) (Some (i, j)) p
 
 -- the column scan: the first k entries of row i
 unfoldable pub scan_row : Matrix → List Bool → List Bool → ℕ → ℕ → Place → Place
@@ -44,7 +46,7 @@ scan_row m ur uc i (suc k) p = look m ur uc i k (scan_row m ur uc i k p)
 
 -- the row scan: the first k rows
 unfoldable pub scan_rows : Matrix → List Bool → List Bool → ℕ → Place
-scan_rows m ur uc zero = Nothing
+scan_rows m ur uc zero = None
 scan_rows m ur uc (suc k) = scan_row m ur uc k m.cols (scan_rows m ur uc k)
 
 -- the next pick
@@ -62,8 +64,8 @@ abbrev pub cols_of : List Pick → List ℕ
 cols_of l = map (λ p. p.col) l
 
 unfoldable pub pick_then : Place → (ℕ → ℕ → List Pick) → List Pick
-pick_then Nothing rest = []
-pick_then (At i j) rest = record { row = i; col = j } ∷ rest i j
+pick_then None rest = []
+pick_then (Some (i, j)) rest = record { row = i; col = j } ∷ rest i j
 
 -- at most k picks in order, each followed by marking its row and column used
 unfoldable pub greedy : Matrix → ℕ → List Bool → List Bool → List Pick

@@ -5,6 +5,7 @@ use Rattle.std.specs.Float.Ieee.{lt}
 use Rattle.laws.specs.Float64.{finite}
 use Rattle.laws.specs.Lists.{below, padded}
 use Rattle.matching.specs.declared.Picks.{Picks}
+use Rattle.matching.specs.declared.matrix.LentMatrix.{LentMatrix}
 use Rattle.matching.specs.Greedy.{Matrix, Pick, rows_of, cols_of}
 
 abbrev pub counts_below : Float → Float → Bool
@@ -18,6 +19,9 @@ lent l r c threshold =
       entry = λ i j. get_or l (i * c + j) nan;
       counts = λ i j. counts_below threshold (get_or l (i * c + j) nan);
     }
+
+abbrev pub lent_matrix : LentMatrix → Matrix
+lent_matrix m = lent m.entries.now m.rows m.cols m.threshold
 
 -- the picks that a struct lists
 abbrev pub picked : Picks → List Pick

@@ -1,4 +1,5 @@
 -- Rules 45 and 46: a record has no permanent ID while it is initializing, and then bears the one issued to it.
+use Rattle.std.specs.Prelude.{Option, Some, None}
 use mathlib.Core.Path.{refl}
 use mathlib.Core.Bool.{Bool, true, false, cond}
 use mathlib.Core.List.Memᴰ
@@ -10,9 +11,6 @@ use lib.ListN.{get_or, get_or-map}
 use Rattle.laws.proofs.Mapped.{map-set}
 use Rattle.matching.specs.Greedy.{Pick}
 use Rattle.parts.specs.declared.Life.{Life}
-use Rattle.parts.specs.declared.PermanentId.{PermanentId}
-use Rattle.parts.specs.declared.PermanentId.TheVariants.{Unissued, Issued}
-use Rattle.parts.specs.declared.ReidCounter.{ReidCounter}
 use Rattle.parts.specs.declared.TrackedObject.{TrackedObject}
 use Rattle.parts.specs.declared.TrackerConfig.{TrackerConfig}
 use Rattle.parts.specs.Life.{raised, promotes, promoted, raised_only, life_hit, is_zero, life_opened}
@@ -27,7 +25,7 @@ use Rattle.laws.specs.Every.{none, one}
 use Rattle.laws.proofs.Every.{every_append, every_set, every_weaker}
 
 -- what was issued stays issued
-standing_on : (more : List Issue) {issued : List Issue} {name : ℕ} {i : Bool} {d : PermanentId} → Standing issued name i d → Standing (issued ++ more) name i d
+standing_on : (more : List Issue) {issued : List Issue} {name : ℕ} {i : Bool} {d : Option ℕ} → Standing issued name i d → Standing (issued ++ more) name i d
 standing_on more waits = waits
 standing_on more (has m) = has (Memᴰ.append_left more m)
 
@@ -41,7 +39,7 @@ module _ (issued : List Issue) (name next : ℕ) where
   newest = Memᴰ.append_right issued (Memᴰ.head refl)
 
   -- a hit that issues no ID changes neither mark nor ID
-  bears_hit : (period : ℕ) (maximum delay : ℤ) (reid_max : ReidCounter) (l : Life) → Bears issued name l
+  bears_hit : (period : ℕ) (maximum delay : ℤ) (reid_max : Option ℤ) (l : Life) → Bears issued name l
       → Bears (issued ++ cond (promotes period maximum delay l) (issue next name ∷ []) []) name (life_hit period maximum delay reid_max next l)
   unfolding life_hit
   bears_hit period maximum delay reid_max l b = go (promotes period maximum delay l) (raised period maximum l)
@@ -54,7 +52,7 @@ module _ (issued : List Issue) (name next : ℕ) where
   unfolding life_opened
   bears_opened period delay = go (is_zero delay)
     where
-      go : (t : Bool) → Standing (issued ++ cond t (issue next name ∷ []) []) name (cond t false true) (cond t (Issued next) Unissued)
+      go : (t : Bool) → Standing (issued ++ cond t (issue next name ∷ []) []) name (cond t false true) (cond t (Some next) None)
       go true = has newest
       go false = waits
 

@@ -23,7 +23,7 @@ module _ (t : Table) (n : ℕ) (f : Frame) where
   few_hits = hits_few (matrix_of t n f) (numbers t.lists.alive) (numbers t.lists.initializing)
 
   module _ {first : Picks} (one : first ≡ picks_of (first_pass (matrix_of t n f) (numbers t.lists.alive))) where
-    pub first_is : first ≡ picks_of (first_hits t n f)
+    first_is : first ≡ picks_of (first_hits t n f)
     unfolding first_hits
     first_is = one
 
@@ -34,13 +34,10 @@ module _ (t : Table) (n : ℕ) (f : Frame) where
     first_rows h = rw one (rows_within (first_passed (matrix_of t n f) (numbers t.lists.alive)) h)
 
     module _ {second : Picks} (two : second ≡ picks_of (second_pass (matrix_of t n f) (numbers t.lists.initializing) (rows_picked first))) where
-      pub second_is : second ≡ picks_of (second_hits t n f)
+      second_is : second ≡ picks_of (second_hits t n f)
       unfolding second_hits
       second_is = two ∙ rw (first_is, picked_rows (first_hits t n f))
 
-      pub second-few : second.count ≤ n
-      second-few = rw second_is (omega (arith, few_hits))
-
-      pub decided : {left : Numbers} → left ≡ numbers_of (left_over n (rows_picked first) (rows_picked second)) → ◌≡◌ {A = Decided} (record { first = first; second = second; left = left }) (decided_of t n f)
+      pub decided : {left : Numbers 64} → left ≡ numbers_of (left_over n (rows_picked first) (rows_picked second)) → ◌≡◌ {A = Decided} (record { first = first; second = second; left = left }) (decided_of t n f)
       unfolding to_open
       decided three = rw (three, first_is, second_is, picked_rows (first_hits t n f), picked_rows (second_hits t n f))

@@ -114,7 +114,7 @@ pub record Openable (c : TrackerConfig) (f : Frame) (s : List Float) (st : State
   pub room : (st.counts.records + length l) * block_size c ≤ length s
 
 -- of a table, and the numbers that a struct lists
-pub openable : {c : TrackerConfig} {f : Frame} (s : List Float) (records : List TrackedObject) (n : Counts) (left : Numbers) → Fits c f
+pub openable : {c : TrackerConfig} {f : Frame} (s : List Float) (records : List TrackedObject) (n : Counts) (left : Numbers 64) → Fits c f
     → left.count ≤ length left.at → EachBelow (length f.has_scores) left.count left.at → (n.records + left.count) * block_size c ≤ length s
     → Openable c f s (found c records s n) (numbers left)
 openable {c = c} s records n left fits listed few room =

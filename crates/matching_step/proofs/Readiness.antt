@@ -1,11 +1,11 @@
 -- Rules 11 and 14: what step 2 has once none of its refusals is due, and what it answers where one is.
-use mathlib.Core.Path.{◌≡◌, refl, sym, ◌∙◌}
+use mathlib.Core.Path.{◌≡◌, refl, sym, ◌∙◌, ap}
 use mathlib.Core.Bool.{true, false, cond}
 use mathlib.Core.List.{List, [], ◌∷◌, ◌++◌, map}
-use Prim.Native.Nat.{ℕ, zero, suc, ◌+◌, ◌*◌, ◌≤◌}
+use Prim.Native.Nat.{ℕ, ◌+◌, ◌*◌, ◌≤◌}
 use native.Mathlib.Nat.{le_trans}
 use native.Mathlib.Omega.{arith}
-use borrow.Author.Tests.{leb-true, ltb-false, eqb-true, not-false, ne_eqb, le-leb}
+use borrow.Author.Tests.{leb-true, ltb-false, eqb-true, not-false, le-leb}
 use lib.Dec.{leb, eqb}
 use lib.Ieee.{Float}
 use lib.IntN.{ℤ, pos, negsuc}
@@ -22,12 +22,14 @@ use Rattle.parts.specs.Layout.{coords}
 use Rattle.pairs.specs.declared.Pair.{Pair}
 use Rattle.table.specs.declared.Table.{Table}
 use Rattle.table.specs.Making.{zero_object}
-use Rattle.table.specs.Refusals.{first_due, storage_need}
+use Rattle.std.specs.Prelude.{Option, Some, None, is_none, Result, Ok, Err}
+use Rattle.table.specs.declared.refusals.Refusal.{Refusal}
+use Rattle.table.specs.Refusals.{first_due, checked, storage_need}
 use Rattle.table.proofs.Chain.{parts}
-use Rattle.table.proofs.Due.{Numbered, due_after, none_due}
+use Rattle.table.proofs.Due.{checked_refused, checked_passed, due_after, none_due}
 use Rattle.table.proofs.Facts.{WholeFacts, whole_facts, sizes_of, blocks_fit, object_in_range}
-use Rattle.passes.specs.declared.Lengths.{Lengths}
-use Rattle.passes.specs.Checks.{Frame, frame, lengths_of, given_checks, decided_checks}
+use Rattle.passes.specs.declared.frame.LentLengths.{LentLengths}
+use Rattle.passes.specs.Checks.{Frame, lengths_of, given_checks, decided_checks}
 use Rattle.passes.specs.Passes.{numbers, among}
 use Rattle.passes.proofs.PassLaws.{first_passed, second_passed, rows_inside, cols_inside, names_once}
 use Rattle.matching_step.specs.declared.Decided.{Decided}
@@ -37,11 +39,7 @@ use Rattle.matching_step.proofs.Deciding.{few_hits}
 
 -- ---- none is due before the picks
 
-given_numbered : (t : Table) (floats period detections : ℕ) (l : Lengths) → Numbered (given_checks t floats period detections l)
-given_numbered t floats period detections l =
-    (omega arith, (omega arith, (omega arith, (omega arith, (omega arith, (omega arith, (omega arith, tt)))))))
-
-pub record GivenFacts (t : Table) (floats period detections : ℕ) (l : Lengths) : Type 0 where
+pub record GivenFacts (t : Table) (floats period detections : ℕ) (l : LentLengths) : Type 0 where
   pub whole : WholeFacts t
   pub storage : storage_need t.config ≤ floats
   pub often : period ≤ 1000
@@ -52,11 +50,11 @@ pub record GivenFacts (t : Table) (floats period detections : ℕ) (l : Lengths)
   pub distances : l.distances ≡ detections * t.counts.records
   pub places : 32 ≤ l.pairs
 
-module _ (t : Table) (floats period detections : ℕ) (l : Lengths) (none : first_due (given_checks t floats period detections l) ≡ 0) where
+module _ (t : Table) (floats period detections : ℕ) (l : LentLengths) (none : first_due (given_checks t floats period detections l) ≡ None) where
   pub given_facts : GivenFacts t floats period detections l
   given_facts =
       let c = t.config in
-      let due = none_due (given_checks t floats period detections l) (given_numbered t floats period detections l) none in
+      let due = none_due (given_checks t floats period detections l) none in
       let fit =
       parts (eqb l.points (detections * coords c)) (
       eqb l.scores (detections * c.points) ∷ eqb l.has_scores detections ∷ eqb l.distances (detections * t.counts.records) ∷ []
@@ -89,11 +87,6 @@ module _ (t : Table) (floats period detections : ℕ) (l : Lengths) (none : firs
 -- ---- what is decided
 
 module _ (t : Table) (detections : ℕ) (f : Frame) where
-  -- by the matrix alone
-  pub decided_alike : decided_of t detections (frame 0 [] [] [] f.distances) ≡ decided_of t detections f
-  unfolding first_hits second_hits to_open
-  decided_alike = refl
-
   few_open : length (to_open t detections f) ≤ detections
   unfolding to_open
   few_open =
@@ -101,21 +94,21 @@ module _ (t : Table) (detections : ℕ) (f : Frame) where
       le_trans (length-keep (among false (rows_of (second_hits t detections f))) (unmatched detections first)) (at_most_total detections first)
 
   -- the refusal that waits for them
-  abbrev pub decided_due : ℕ
+  abbrev pub decided_due : Option Refusal
   decided_due = first_due (decided_checks t.config t.counts f.points (length (to_open t detections f)))
 
-  roomy : decided_due ≡ 0 → t.counts.records + length (to_open t detections f) ≤ t.config.capacity
+  roomy : decided_due ≡ None → t.counts.records + length (to_open t detections f) ≤ t.config.capacity
   roomy none =
       let more = length (to_open t detections f) in
-      let due = none_due (decided_checks t.config t.counts f.points more) (omega arith, (omega arith, (omega arith, tt))) none in
+      let due = none_due (decided_checks t.config t.counts f.points more) none in
       ltb-false t.config.capacity (t.counts.records + more) due.1.0
 
 -- ---- the refusals in their order
 
 -- where the one that comes first is not due the other decides
-apart : (first second : ℕ) → cond (eqb first 0) second first ≡ 0 → (first ≡ 0) × (second ≡ 0)
-apart zero second e = (refl, e)
-apart (suc n) second e = absurd (omega (arith, rw (ne_eqb (suc n) 0 (λ z. omega arith)) at e))
+apart : (first second : Option Refusal) → cond (is_none first) second first ≡ None → (first ≡ None) × (second ≡ None)
+apart None second e = (refl, e)
+apart (Some r) second e = cc
 
 -- the delay lies from 0 to below the maximum
 above_delay : (maximum delay : ℤ) → lt_z delay (pos 0) ≡ false → le_z maximum delay ≡ false → le_z (pos 0) maximum ≡ true
@@ -125,22 +118,21 @@ above_delay (negsuc m) (negsuc d) from below = sym from
 
 module _ (t : Table) (s : List Float) (detections : ℕ) (f : Frame) (places : ℕ) where
   -- the refusal that does not wait for the picks
-  abbrev pub given_due : ℕ
+  abbrev pub given_due : Option Refusal
   given_due = first_due (given_checks t (length s) f.period detections (lengths_of f places))
 
-  pub given_first : match_refusal t s detections f places ≡ cond (eqb given_due 0) (decided_due t detections f) given_due
+  pub given_first : match_refusal t s detections f places ≡ cond (is_none given_due) (decided_due t detections f) given_due
   given_first =
       let l = lengths_of f places in
       due_after (given_checks t (length s) f.period detections l) (decided_checks t.config t.counts f.points (length (to_open t detections f)))
-      (given_numbered t (length s) f.period detections l)
 
-  none_apart : match_refusal t s detections f places ≡ 0 → (given_due ≡ 0) × (decided_due t detections f ≡ 0)
+  none_apart : match_refusal t s detections f places ≡ None → (given_due ≡ None) × (decided_due t detections f ≡ None)
   none_apart none = apart given_due (decided_due t detections f) (sym given_first ∙ none)
 
-  pub facts : match_refusal t s detections f places ≡ 0 → GivenFacts t (length s) f.period detections (lengths_of f places)
+  pub facts : match_refusal t s detections f places ≡ None → GivenFacts t (length s) f.period detections (lengths_of f places)
   facts none = given_facts t (length s) f.period detections (lengths_of f places) (none_apart none).0
 
-  pub ready : length t.records ≡ 64 → match_refusal t s detections f places ≡ 0 → Ready t (length s) detections f
+  pub ready : length t.records ≡ 64 → match_refusal t s detections f places ≡ None → Ready t (length s) detections f
   ready long none =
       let c = t.config in
       let g = facts none in
@@ -168,36 +160,39 @@ module _ (t : Table) (s : List Float) (detections : ℕ) (f : Frame) (places : �
         decidable = p;
         dead = (w.dead.count, names_once w.dead);
         places = le_trans room w.settings.capacity.1;
-        blocks = blocks_fit c room g.storage;
+        room = blocks_fit c room g.storage;
         opened = n.opened;
         permanent = omega (arith, n.permanent.1, n.opened);
         global = omega (arith, n.global, n.opened);
         initializing = omega (arith, n.initializing, n.opened);
       }
 
-  -- ---- what the call owes: its answer, few pairs, and the floats
+  -- the first check's answer, told the lengths of what is lent
+  pub told_given : {l : LentLengths} {r : Result (Unit {0}) Refusal} → l ≡ lengths_of f places
+      → r ≡ checked (first_due (given_checks t (length s) f.period detections l)) → checked given_due ≡ r
+  told_given {l} e told = sym (told ∙ ap (λ k. checked (first_due (given_checks t (length s) f.period detections k))) e)
 
-  abbrev pub Answered : Matched → List Float → Type 0
-  Answered r floats =
-      (r ≡ matched t s detections f places) × (((r.count ≤ 32) × (r.count ≤ places)) × (floats ≡ matched_floats t s detections f places))
+  -- ---- a refusal is the answer, and nothing changes
 
-  refused_with_lem : {n : ℕ} {r : Matched} → match_refusal t s detections f places ≡ n → (n ≡ 0 → ⊥) → r ≡ refused_with n t → Answered r s
-  unfolding matched matched_floats
-  refused_with_lem {n = n} due some same = rw (same, due, ne_eqb n 0 some) (refl, ((omega arith, omega arith), refl))
+  pub due_given : {r : Refusal} → checked given_due ≡ Err r → match_refusal t s detections f places ≡ Some r
+  due_given e = given_first ∙ rw (checked_refused given_due e)
 
-  pub matched_given : {n : ℕ} {r : Matched} → n ≡ given_due → (n ≡ 0 → ⊥) → r ≡ refused_with n t → Answered r s
-  matched_given {n = n} due some = refused_with_lem (given_first ∙ rw (sym due, ne_eqb n 0 some)) some
+  pub refused_value : {r : Refusal} {m : Matched} → match_refusal t s detections f places ≡ Some r → m ≡ refused_with (Some r) t
+      → m ≡ matched t s detections f places
+  unfolding matched
+  refused_value due same = rw (same, due)
+
+  pub refused_floats : {r : Refusal} → match_refusal t s detections f places ≡ Some r → s ≡ matched_floats t s detections f places
+  unfolding matched_floats
+  refused_floats due = rw due
 
 -- ---- once the picks are decided: no refusal came before them, and they are the definition's
 
 pub record Picking (t : Table) (s : List Float) (detections : ℕ) (f : Frame) (places : ℕ) (d : Decided) : Type 0 where
-  pub none : given_due t s detections f places ≡ 0
-  pub made : d ≡ decided_of t detections (frame 0 [] [] [] f.distances)
+  pub none : given_due t s detections f places ≡ None
+  pub made : d ≡ decided_of t detections f
 
 module _ {t : Table} {s : List Float} {detections : ℕ} {f : Frame} {places : ℕ} {d : Decided} (came : Picking t s detections f places d) where
-  decided_is : d ≡ decided_of t detections f
-  decided_is = came.made ∙ decided_alike t detections f
-
   passed : GivenFacts t (length s) f.period detections (lengths_of f places)
   passed = given_facts t (length s) f.period detections (lengths_of f places) came.none
 
@@ -206,10 +201,13 @@ module _ {t : Table} {s : List Float} {detections : ℕ} {f : Frame} {places : �
 
   -- what decided_refusal asks
   pub askable : (t.counts.records ≤ 64) × (t.counts.opened ≤ 2000000000) × (d.left.count ≤ 64)
-  askable = (standing.fit, passed.whole.counts.opened, rw decided_is (omega (arith, few_open t detections f, passed.few)))
+  askable = (standing.fit, passed.whole.counts.opened, rw came.made (omega (arith, few_open t detections f, passed.few)))
 
   few_pairs : d.first.count + d.second.count ≤ 32
-  few_pairs = rw decided_is (le_trans (few_hits t detections f) passed.few)
+  few_pairs = rw came.made (le_trans (few_hits t detections f) passed.few)
+
+  pub pairs_bound : (d.first.count + d.second.count ≤ 32) × (d.first.count + d.second.count ≤ places)
+  pairs_bound = (few_pairs, le_trans few_pairs passed.places)
 
   -- what pairs_of asks: every hit lies in the matrix
   pub pairable : (d.first.count + d.second.count ≤ 32) × (detections ≤ 32) × (t.counts.records ≤ 64)
@@ -222,39 +220,45 @@ module _ {t : Table} {s : List Float} {detections : ℕ} {f : Frame} {places : �
       let one = first_passed m (numbers t.lists.alive) in
       let two = second_passed m (numbers t.lists.initializing) (rows_of (first_hits t detections f)) in
       let p = standing in
-      rw decided_is (rw decided_is at few_pairs, p.few, p.fit, p.distances, rows_inside one, cols_inside one, rows_inside two, cols_inside two)
+      rw came.made (rw came.made at few_pairs, p.few, p.fit, p.distances, rows_inside one, cols_inside one, rows_inside two, cols_inside two)
 
   -- the pairs listed are one for each hit
   listed : map (pair_of t.records f t.counts.records 1) (picked d.first) ++ map (pair_of t.records f t.counts.records 2) (picked d.second)
       ≡ pairs_of t detections f
   unfolding pairs_of
-  listed = rw (decided_is, picked_of (first_hits t detections f), picked_of (second_hits t detections f))
+  listed = rw (came.made, picked_of (first_hits t detections f), picked_of (second_hits t detections f))
 
   counted : d.first.count + d.second.count ≡ length (pairs_of t detections f)
   unfolding pairs_of
-  counted = rw decided_is (simp (length-append, length-map))
+  counted = rw came.made (simp (length-append, length-map))
 
-  module _ {n : ℕ} (told : n ≡ first_due (decided_checks t.config t.counts f.points d.left.count)) where
-    due_is : match_refusal t s detections f places ≡ n
-    due_is = given_first t s detections f places ∙ rw (came.none, told, decided_is)
+  -- the refusal that waits for them, as it is asked
+  abbrev pub asked_due : Option Refusal
+  asked_due = first_due (decided_checks t.config t.counts f.points d.left.count)
 
-    pub matched_decided : {r : Matched} → (n ≡ 0 → ⊥) → r ≡ refused_with n t → Answered t s detections f places r s
-    matched_decided = refused_with_lem t s detections f places due_is
+  due_is : match_refusal t s detections f places ≡ asked_due
+  due_is = given_first t s detections f places ∙ rw (came.none, came.made)
 
-    module _ (nor : n ≡ 0) where
-      -- what match_step asks, which counts the detections by their marks
-      pub startable : length t.records ≡ 64 → Ready t (length s) (length f.has_scores) f × (d ≡ decided_of t (length f.has_scores) f)
-      startable long = rw passed.marks (ready t s detections f places long (due_is ∙ nor), decided_is)
+  pub due_decided : {r : Refusal} → checked asked_due ≡ Err r → match_refusal t s detections f places ≡ Some r
+  due_decided e = due_is ∙ checked_refused asked_due e
 
-      pub matched_accepted : {pairs : List Pair} {table : Table} {floats : List Float}
-          → pairs
-          ≡ filled 32 no_pair
-          (map (pair_of t.records f t.counts.records 1) (picked d.first) ++ map (pair_of t.records f t.counts.records 2) (picked d.second))
-          → table ≡ match_table t s (length f.has_scores) f → floats ≡ match_floats t s (length f.has_scores) f
-          → Answered t s detections f places (record { pairs = pairs; count = d.first.count + d.second.count; refusal = 0; table = table }) floats
-      unfolding matched matched_floats
-      matched_accepted paired stepped written =
-          let none = due_is ∙ nor in (
-            rw (none, paired, listed, counted, stepped, passed.marks),
-            ((few_pairs, le_trans few_pairs passed.places), rw (none, written, passed.marks)),
-          )
+  module _ {u : Unit {0}} (nor : checked asked_due ≡ Ok u) where
+    none_is : match_refusal t s detections f places ≡ None
+    none_is = due_is ∙ checked_passed asked_due nor
+
+    -- what match_step asks, which counts the detections by their marks
+    pub startable : length t.records ≡ 64 → Ready t (length s) (length f.has_scores) f × (d ≡ decided_of t (length f.has_scores) f)
+    startable long = rw passed.marks (ready t s detections f places long none_is, came.made)
+
+    pub accepted_value : {pairs : List Pair} {table : Table}
+        → pairs
+        ≡ filled 32 no_pair
+        (map (pair_of t.records f t.counts.records 1) (picked d.first) ++ map (pair_of t.records f t.counts.records 2) (picked d.second))
+        → table ≡ match_table t s (length f.has_scores) f
+        → ◌≡◌ {A = Matched} (record { pairs = pairs; count = d.first.count + d.second.count; refusal = None; table = table }) (matched t s detections f places)
+    unfolding matched
+    accepted_value paired stepped = rw (none_is, paired, listed, counted, stepped, passed.marks)
+
+    pub accepted_floats : {floats : List Float} → floats ≡ match_floats t s (length f.has_scores) f → floats ≡ matched_floats t s detections f places
+    unfolding matched_floats
+    accepted_floats written = rw (none_is, written, passed.marks)

@@ -1,12 +1,10 @@
 -- Rules 43 to 46: step 2's account: the hits of each pass, who was opened, and the permanent IDs issued; and what a record shows of them. A record is named by its initializing ID.
-use Rattle.std.specs.Prelude.{Bool, true, false, cond, ℕ, get_or, Float}
+use Rattle.std.specs.Prelude.{Bool, true, false, cond, ℕ, get_or, Float, Option, Some, None}
 use mathlib.Core.List.{List, [], ◌∷◌, ◌++◌, map, Memᴰ}
 use Rattle.laws.specs.Every.{Every}
 use Rattle.laws.specs.Turns.{gathered}
 use Rattle.matching.specs.Greedy.{Pick}
 use Rattle.parts.specs.declared.Life.{Life}
-use Rattle.parts.specs.declared.PermanentId.{PermanentId}
-use Rattle.parts.specs.declared.PermanentId.TheVariants.{Unissued, Issued}
 use Rattle.parts.specs.declared.TrackedObject.{TrackedObject}
 use Rattle.parts.specs.declared.TrackerConfig.{TrackerConfig}
 use Rattle.parts.specs.Life.{is_zero}
@@ -115,9 +113,9 @@ abbrev pub shown_by : TrackedObject → Given
 shown_by o = given (name_of o) o.origin.global_id
 
 -- by whether it is initializing, and its permanent ID: none while it initializes, then one that was issued to it
-pub data Standing (issued : List Issue) (name : ℕ) : Bool → PermanentId → Type 0 where
-  waits : Standing issued name true Unissued
-  has : {k : ℕ} → Memᴰ (issue k name) issued → Standing issued name false (Issued k)
+pub data Standing (issued : List Issue) (name : ℕ) : Bool → Option ℕ → Type 0 where
+  waits : Standing issued name true None
+  has : {k : ℕ} → Memᴰ (issue k name) issued → Standing issued name false (Some k)
 
 abbrev pub Bears : List Issue → ℕ → Life → Type 0
 Bears issued name l = Standing issued name l.is_initializing l.id

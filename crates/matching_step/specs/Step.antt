@@ -1,5 +1,5 @@
 -- Rules 40 and 43 to 48: step 2 on a table with its floats: the hits of pass 1, those of pass 2, the openings; and the pair list.
-use Rattle.std.specs.Prelude.{◌≡◌, Bool, true, not, cond, List, [], ◌∷◌, ◌++◌, map, ℕ, ◌+◌, ◌*◌, ◌≤◌, eqb, pos, length, get_or, set, take, drop, replicate, Float}
+use Rattle.std.specs.Prelude.{◌≡◌, Bool, true, not, cond, List, [], ◌∷◌, ◌++◌, map, ℕ, ◌+◌, ◌*◌, ◌≤◌, eqb, pos, length, get_or, set, take, drop, replicate, Float, Option, is_none}
 use Rattle.std.specs.Int.Signed.{le_z}
 use Rattle.std.specs.Float.{nan}
 use Rattle.laws.specs.Float64.{f0}
@@ -17,6 +17,7 @@ use Rattle.parts.specs.Life.{promotes, is_zero}
 use Rattle.tracked_object.specs.Object.{Detection, detection, object_hit, block_hit, object_opened, block_opened}
 use Rattle.table.specs.declared.Counts.{Counts}
 use Rattle.table.specs.declared.Lists.{Lists}
+use Rattle.table.specs.declared.refusals.Refusal.{Refusal}
 use Rattle.table.specs.declared.Table.{Table}
 use Rattle.table.specs.declared.Phase.TheVariants.{Reid}
 use Rattle.table.specs.Making.{zero_object, no_numbers, candidates_of}
@@ -193,11 +194,11 @@ pairs_of t detections f =
 
 -- ---- with its refusals
 
-abbrev pub match_refusal : Table → List Float → ℕ → Frame → ℕ → ℕ
+abbrev pub match_refusal : Table → List Float → ℕ → Frame → ℕ → Option Refusal
 match_refusal t s detections f places = first_due (match_checks t (length s) detections f places (length (to_open t detections f)))
 
 abbrev pub accepted : Table → List Float → ℕ → Frame → ℕ → Bool
-accepted t s detections f places = eqb (match_refusal t s detections f places) 0
+accepted t s detections f places = is_none (match_refusal t s detections f places)
 
 -- a refusal lists no pair and returns the table
 abbrev pub listed_pairs : Table → List Float → ℕ → Frame → ℕ → List Pair
@@ -206,7 +207,7 @@ listed_pairs t s detections f places = cond (accepted t s detections f places) (
 abbrev pub no_pair : Pair
 no_pair = record { detection = 0; global_id = 0; pass = 0; distance = f0 }
 
-abbrev pub refused_with : ℕ → Table → Matched
+abbrev pub refused_with : Option Refusal → Table → Matched
 refused_with refusal t = record { pairs = replicate 32 no_pair; count = 0; refusal = refusal; table = t }
 
 unfoldable pub matched : Table → List Float → ℕ → Frame → ℕ → Matched
@@ -264,7 +265,7 @@ pub record Ready (t : Table) (floats detections : ℕ) (f : Frame) : Type 0 wher
   pub decidable : Decidable t detections (length f.distances)
   pub dead : (t.lists.dead.count ≤ 64) × NamesOnce t.counts.records (numbers t.lists.dead)
   pub places : t.counts.records + length (to_open t detections f) ≤ 64
-  pub blocks : (t.counts.records + length (to_open t detections f)) * block_size t.config ≤ floats
+  pub room : (t.counts.records + length (to_open t detections f)) * block_size t.config ≤ floats
   pub opened : t.counts.opened ≤ 2000000000
   pub permanent : t.counts.permanent ≤ 2000000001
   pub global : t.counts.global ≤ 2000000001

@@ -1,20 +1,24 @@
 // Rules 45 and 46 on a table's records and floats: the hits of a pass in pick order, and the openings by ascending number.
-ghost use Rattle.std.specs.Prelude.{◌≡◌, [], ◌+◌, ◌*◌, ◌<◌, ◌≤◌, length, take, drop};
+// What fits a frame and what holds of picks stays in the clauses: it ties them to the settings and to the table at hand, so that a struct for it would hold all of these. Records go by value, the table's own array and a count: fixed memory is a rule of the project.
+ghost use Rattle.std.specs.Prelude.{◌≡◌, ◌+◌, ◌*◌, ◌<◌, ◌≤◌, length, take, drop};
 ghost use Rattle.std.proofs.Math.Seq.{paste};
 ghost use Rattle.laws.specs.Turns.{through};
-ghost use Rattle.parts.specs.Layout.{block_size};
+ghost use Rattle.parts.specs.Layout.{coords, block_size};
 ghost use Rattle.parts.specs.Ranges.{ObjectInRange};
-ghost use Rattle.tracked_object.specs.Object.{changed_by_hit, block_hit, changed_by_opening, block_opened};
+ghost use Rattle.tracked_object.specs.Object.{detection_of, changed_by_hit, block_hit, changed_by_opening, block_opened};
 ghost use Rattle.table.specs.Slots.{slots, floats_back};
-ghost use Rattle.passes.specs.Checks.{frame};
+ghost use Rattle.passes.specs.Checks.{lent_frame};
 ghost use Rattle.passes.specs.Passes.{numbers};
 ghost use Rattle.matching.specs.Lent.{picked};
 ghost use Rattle.laws.specs.Lists.{EachBelow};
 ghost use Rattle.matching_step.specs.Step.{State, lent_detection, hit_one, open_one, issuing, opening, Fits, Holds, stepped_of};
 
 use crate::Stepped;
+use filter::detection::LentDetection;
 use matching::{Numbers, Picks};
-use parts::{Changed, TrackedObject, TrackerConfig, block};
+use parts::settings::Settings;
+use parts::{Changed, Origin, TrackedObject, block};
+use passes::frame::LentFrame;
 use table::Counts;
 
 // The i-th of the parts of one size that floats are lent in.
@@ -22,43 +26,47 @@ fn part_of(s: &[f64], i: usize, size: usize) -> &[f64]
     requires { i * size + size ≤ length s.now }
     ensures { result.now ≡ take size (drop (i * size) s.now) }
 {
-    let start = i * size;
-    let end = start + size;
-    &s[start..end]
+    &s[i * size..i * size + size]
+}
+
+// Detection d of the frame.
+fn detection_at<'a>(settings: Settings, f: LentFrame<'a>, d: usize) -> LentDetection<'a>
+    requires { Fits settings.config (lent_frame f) × (d < length f.has_scores.now) }
+    ensures value { detection_of result ≡ lent_detection settings.config (lent_frame f.entry) d }
+    ensures points { length result.points.now ≡ coords settings.config }
+    ensures scores { length result.scores.now ≡ settings.config.points }
+{
+    LentDetection {
+        points: part_of(f.points, d, block::layout_of(settings).coords),
+        scores: part_of(f.scores, d, settings.config.points),
+        has_scores: f.has_scores[d] != 0,
+    }
 }
 
 // Record o, whose block is the k-th, hit by detection d.
 fn hit_at(
-    config: TrackerConfig,
+    settings: Settings,
     o: TrackedObject,
     s: &mut [f64],
     k: usize,
-    points: &[f64],
-    scores: &[f64],
-    has_scores: &[u8],
+    f: LentFrame<'_>,
     d: usize,
-    period: u32,
     distance: f64,
     next_id: u32,
 ) -> Changed
-    requires { Fits config (frame period points.now scores.now has_scores.now []) × (d < length has_scores.now) × ObjectInRange config o × (k * block_size config + block_size config ≤ length s.old) }
-    ensures value { result ≡ changed_by_hit config (lent_detection config (frame period points.now scores.now has_scores.now []) d) period distance next_id o }
-    ensures s_after { s.new ≡ paste s.old (k * block_size config) (block_hit config (lent_detection config (frame period points.now scores.now has_scores.now []) d) o.past_count (take (block_size config) (drop (k * block_size config) s.old))) (block_size config) }
+    requires { Fits settings.config (lent_frame f) × (d < length f.has_scores.now) × ObjectInRange settings.config o × (k * block_size settings.config + block_size settings.config ≤ length s.old) }
+    ensures value { result ≡ changed_by_hit settings.config (lent_detection settings.config (lent_frame f.entry) d) f.entry.period distance next_id o }
+    ensures s_after { s.new ≡ paste s.old (k * block_size settings.config) (block_hit settings.config (lent_detection settings.config (lent_frame f.entry) d) o.past_count (take (block_size settings.config) (drop (k * block_size settings.config) s.old))) (block_size settings.config) }
 {
-    let at = block::layout_of(config);
-    let start = k * at.size;
-    let end = start + at.size;
-    let own = part_of(points, d, at.coords);
-    let marks = part_of(scores, d, config.points);
-    let has = has_scores[d] != 0;
+    let detection = detection_at(settings, f, d);
+    let size = block::layout_of(settings).size;
+    let start = k * size;
     tracked_object::hit(
-        config,
+        settings,
         o,
-        &mut s[start..end],
-        own,
-        marks,
-        has,
-        period,
+        &mut s[start..start + size],
+        detection,
+        f.period,
         distance,
         next_id,
     )
@@ -66,35 +74,30 @@ fn hit_at(
 
 // A record opened by detection d in the k-th block.
 fn open_at(
-    config: TrackerConfig,
+    settings: Settings,
     s: &mut [f64],
     k: usize,
-    points: &[f64],
-    scores: &[f64],
-    has_scores: &[u8],
+    f: LentFrame<'_>,
     d: usize,
-    period: u32,
     counts: Counts,
 ) -> Changed
-    requires { Fits config (frame period points.now scores.now has_scores.now []) × (d < length has_scores.now) × (k * block_size config + block_size config ≤ length s.old) }
-    ensures value { result ≡ changed_by_opening config (lent_detection config (frame period points.now scores.now has_scores.now []) d) period counts.global counts.initializing counts.permanent }
-    ensures s_after { s.new ≡ paste s.old (k * block_size config) (block_opened config (lent_detection config (frame period points.now scores.now has_scores.now []) d) (take (block_size config) (drop (k * block_size config) s.old))) (block_size config) }
+    requires { Fits settings.config (lent_frame f) × (d < length f.has_scores.now) × (k * block_size settings.config + block_size settings.config ≤ length s.old) }
+    ensures value { result ≡ changed_by_opening settings.config (lent_detection settings.config (lent_frame f.entry) d) f.entry.period counts.global counts.initializing counts.permanent }
+    ensures s_after { s.new ≡ paste s.old (k * block_size settings.config) (block_opened settings.config (lent_detection settings.config (lent_frame f.entry) d) (take (block_size settings.config) (drop (k * block_size settings.config) s.old))) (block_size settings.config) }
 {
-    let at = block::layout_of(config);
-    let start = k * at.size;
-    let end = start + at.size;
-    let own = part_of(points, d, at.coords);
-    let marks = part_of(scores, d, config.points);
-    let has = has_scores[d] != 0;
+    let detection = detection_at(settings, f, d);
+    let size = block::layout_of(settings).size;
+    let start = k * size;
+    let origin = Origin {
+        global_id: counts.global,
+        initializing_id: counts.initializing,
+        initial_period: f.period,
+    };
     tracked_object::open(
-        config,
-        &mut s[start..end],
-        own,
-        marks,
-        has,
-        period,
-        counts.global,
-        counts.initializing,
+        settings,
+        &mut s[start..start + size],
+        detection,
+        origin,
         counts.permanent,
     )
 }
@@ -111,81 +114,64 @@ fn issue(mut counts: Counts, took: bool) -> Counts
 }
 
 // One record more, with its IDs.
-fn count_opening(mut counts: Counts, took: bool) -> Counts
+fn count_opening(counts: Counts, took: bool) -> Counts
     requires { (counts.records ≤ 63) × (counts.opened ≤ 4000000000) × (counts.permanent ≤ 4000000000) × (counts.global ≤ 4000000000) × (counts.initializing ≤ 4000000000) }
     ensures { result ≡ opening took counts }
 {
-    counts.records += 1;
-    counts.opened += 1;
-    counts.global += 1;
-    counts.initializing += 1;
-    issue(counts, took)
+    let more = Counts {
+        records: counts.records + 1,
+        opened: counts.opened + 1,
+        global: counts.global + 1,
+        initializing: counts.initializing + 1,
+        ..counts
+    };
+    issue(more, took)
 }
 
 // The hits of a pass, in pick order.
 pub fn hit_each(
-    config: TrackerConfig,
+    settings: Settings,
     mut records: [TrackedObject; 64],
     mut counts: Counts,
     s: &mut [f64],
-    points: &[f64],
-    scores: &[f64],
-    has_scores: &[u8],
-    distances: &[f64],
-    period: u32,
-    picks: Picks,
+    f: LentFrame<'_>,
+    picks: &Picks,
 ) -> Stepped
-    requires { Fits config (frame period points.now scores.now has_scores.now distances.now) × Holds config counts.records records (length s.old) × (length distances.now ≡ length has_scores.now * counts.records) × (picks.count ≤ 32) × EachBelow (length has_scores.now) picks.count picks.rows × EachBelow counts.records picks.count picks.cols × (counts.permanent ≤ 3000000000) }
-    ensures value { result ≡ stepped_of (through (hit_one config (frame period points.now scores.now has_scores.now distances.now) counts.records) (picked picks) (record { slots = slots (block_size config) records s.old counts.records; counts = counts })) records }
-    ensures s_after { s.new ≡ floats_back (block_size config) (through (hit_one config (frame period points.now scores.now has_scores.now distances.now) counts.records) (picked picks) (record { slots = slots (block_size config) records s.old counts.records; counts = counts })).slots s.old }
+    requires { Fits settings.config (lent_frame f) × Holds settings.config counts.records records (length s.old) × (length f.distances.now ≡ length f.has_scores.now * counts.records) × (picks.now.count ≤ 32) × EachBelow (length f.has_scores.now) picks.now.count picks.now.rows × EachBelow counts.records picks.now.count picks.now.cols × (counts.permanent ≤ 3000000000) }
+    ensures value { result ≡ stepped_of (through (hit_one settings.config (lent_frame f.entry) counts.records) (picked picks.now) (record { slots = slots (block_size settings.config) records s.old counts.records; counts = counts })) records }
+    ensures s_after { s.new ≡ floats_back (block_size settings.config) (through (hit_one settings.config (lent_frame f.entry) counts.records) (picked picks.now) (record { slots = slots (block_size settings.config) records s.old counts.records; counts = counts })).slots s.old }
 {
     let n = counts.records;
-    let rows = picks.rows;
-    let cols = picks.cols;
-    let mut i = 0;
-    while i < picks.count {
-        let d = rows[i];
-        let k = cols[i];
-        let o = records[k];
-        let distance = distances[d * n + k];
-        let next_id = counts.permanent;
-        let changed = hit_at(
-            config, o, s, k, points, scores, has_scores, d, period, distance, next_id,
-        );
-        let object = changed.object;
-        records[k] = object;
+    for i in 0..picks.count {
+        let d = picks.rows[i];
+        let k = picks.cols[i];
+        let distance = f.distances[d * n + k];
+        let record = &mut records[k];
+        let changed = hit_at(settings, *record, s, k, f, d, distance, counts.permanent);
+        *record = changed.object;
         counts = issue(counts, changed.issued);
-        i += 1;
     }
     Stepped { records, counts }
 }
 
 // The leftover detections open records at the table's end, by ascending number.
 pub fn open_each(
-    config: TrackerConfig,
+    settings: Settings,
     mut records: [TrackedObject; 64],
     mut counts: Counts,
     s: &mut [f64],
-    points: &[f64],
-    scores: &[f64],
-    has_scores: &[u8],
-    period: u32,
-    left: Numbers,
+    f: LentFrame<'_>,
+    left: &Numbers<64>,
 ) -> Stepped
-    requires { Fits config (frame period points.now scores.now has_scores.now []) × (counts.records + left.count ≤ 64) × ((counts.records + left.count) * block_size config ≤ length s.old) × EachBelow (length has_scores.now) left.count left.at × (counts.opened ≤ 3000000000) × (counts.permanent ≤ 3000000000) × (counts.global ≤ 3000000000) × (counts.initializing ≤ 3000000000) }
-    ensures value { result ≡ stepped_of (through (open_one config (frame period points.now scores.now has_scores.now []) s.old) (numbers left) (record { slots = slots (block_size config) records s.old counts.records; counts = counts })) records }
-    ensures s_after { s.new ≡ floats_back (block_size config) (through (open_one config (frame period points.now scores.now has_scores.now []) s.old) (numbers left) (record { slots = slots (block_size config) records s.old counts.records; counts = counts })).slots s.old }
+    requires { Fits settings.config (lent_frame f) × (counts.records + left.now.count ≤ 64) × ((counts.records + left.now.count) * block_size settings.config ≤ length s.old) × EachBelow (length f.has_scores.now) left.now.count left.now.at × (counts.opened ≤ 3000000000) × (counts.permanent ≤ 3000000000) × (counts.global ≤ 3000000000) × (counts.initializing ≤ 3000000000) }
+    ensures value { result ≡ stepped_of (through (open_one settings.config (lent_frame f.entry) s.old) (numbers left.now) (record { slots = slots (block_size settings.config) records s.old counts.records; counts = counts })) records }
+    ensures s_after { s.new ≡ floats_back (block_size settings.config) (through (open_one settings.config (lent_frame f.entry) s.old) (numbers left.now) (record { slots = slots (block_size settings.config) records s.old counts.records; counts = counts })).slots s.old }
 {
-    let at = left.at;
-    let mut i = 0;
-    while i < left.count {
-        let d = at[i];
+    for d in &left.at[..left.count] {
         let k = counts.records;
-        let changed = open_at(config, s, k, points, scores, has_scores, d, period, counts);
-        let object = changed.object;
-        records[k] = object;
+        let changed = open_at(settings, s, k, f, *d, counts);
+        records[k] = changed.object;
         counts = count_opening(counts, changed.issued);
-        i += 1;
     }
     Stepped { records, counts }
 }

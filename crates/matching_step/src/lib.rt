@@ -8,6 +8,7 @@ pub mod stepping;
 use matching::{Numbers, Picks};
 use pairs::Pair;
 use parts::TrackedObject;
+use table::refusals::Refusal;
 use table::{Counts, Table};
 
 // Both passes' picks, and the detections to open.
@@ -15,7 +16,7 @@ use table::{Counts, Table};
 pub struct Decided {
     pub first: Picks,
     pub second: Picks,
-    pub left: Numbers,
+    pub left: Numbers<64>,
 }
 
 // The records and the counts as hits and openings leave them.
@@ -25,11 +26,11 @@ pub struct Stepped {
     pub counts: Counts,
 }
 
-// What step 2 answers, its pairs by value: those up to the count, and nothing behind.
+// What step 2 answers, its pairs by value: those up to the count, and nothing behind. No Result: a refused call gives the table back too (rule 12).
 #[derive(Clone, Copy)]
 pub struct Matched {
     pub pairs: [Pair; 32],
     pub count: usize,
-    pub refusal: u32,
+    pub refusal: Option<Refusal>,
     pub table: Table,
 }

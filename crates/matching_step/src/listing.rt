@@ -1,45 +1,38 @@
 // Rule 47: the pairs of a pass, in hit order.
-ghost use Rattle.std.specs.Prelude.{◌≡◌, [], ◌++◌, map, ◌+◌, ◌*◌, ◌≤◌, length, take};
+ghost use Rattle.std.specs.Prelude.{◌≡◌, ◌++◌, map, ◌+◌, ◌*◌, ◌≤◌, length, take};
 ghost use Rattle.laws.specs.Lists.{EachBelow, filled};
-ghost use Rattle.passes.specs.Checks.{frame};
+ghost use Rattle.passes.specs.Checks.{lent_frame};
 ghost use Rattle.matching.specs.Lent.{picked};
 ghost use Rattle.matching_step.specs.Step.{pair_of, no_pair};
 
 use matching::Picks;
 use pairs::Pair;
 use parts::TrackedObject;
+use passes::frame::LentFrame;
 
-// The pairs of a pass behind those that stand in front already.
+// The pairs of a pass behind those that stand in front already. Rows and columns are two plain arrays of the matcher (docs/DECISIONS.md, 9 and 41).
 pub fn add_pairs(
     mut pairs: [Pair; 32],
     start: usize,
-    records: [TrackedObject; 64],
-    distances: &[f64],
-    detections: usize,
+    records: &[TrackedObject; 64],
     n: usize,
-    picks: Picks,
+    f: LentFrame<'_>,
+    detections: usize,
+    picks: &Picks,
     pass: u32,
 ) -> [Pair; 32]
-    requires { (start + picks.count ≤ 32) × (detections ≤ 32) × (n ≤ 64) × (length distances.now ≡ detections * n) × EachBelow detections picks.count picks.rows × EachBelow n picks.count picks.cols × (pairs ≡ filled 32 no_pair (take start pairs)) }
-    ensures { result ≡ filled 32 no_pair (take start pairs ++ map (pair_of records (frame 0 [] [] [] distances.now) n pass) (picked picks)) }
+    requires { (start + picks.now.count ≤ 32) × (detections ≤ 32) × (n ≤ 64) × (length f.distances.now ≡ detections * n) × EachBelow detections picks.now.count picks.now.rows × EachBelow n picks.now.count picks.now.cols × (pairs ≡ filled 32 no_pair (take start pairs)) }
+    ensures { result ≡ filled 32 no_pair (take start pairs ++ map (pair_of records.now (lent_frame f.entry) n pass) (picked picks.now)) }
 {
-    let rows = picks.rows;
-    let cols = picks.cols;
-    let mut i = 0;
-    while i < picks.count {
-        let d = rows[i];
-        let k = cols[i];
-        let o = records[k];
-        let global_id = o.origin.global_id;
-        let distance = distances[d * n + k];
-        let pair = Pair {
+    for i in 0..picks.count {
+        let d = picks.rows[i];
+        let k = picks.cols[i];
+        pairs[start + i] = Pair {
             detection: d,
-            global_id,
+            global_id: records[k].origin.global_id,
             pass,
-            distance,
+            distance: f.distances[d * n + k],
         };
-        pairs[start + i] = pair;
-        i += 1;
     }
     pairs
 }

@@ -2,30 +2,35 @@
 ghost use Rattle.std.specs.Prelude.{◌≡◌, [], ◌++◌, map, ◌+◌, ◌*◌, ◌≤◌, length};
 ghost use Rattle.laws.specs.Lists.{EachBelow, filled};
 ghost use Rattle.matching.specs.Lent.{picks_of, picked};
-ghost use Rattle.matching.specs.Unmatched.{numbers_of};
-ghost use Rattle.passes.specs.Checks.{frame};
+ghost use Rattle.passes.specs.Checks.{lent_frame};
 ghost use Rattle.passes.specs.Passes.{numbers, NamesOnce};
-ghost use Rattle.matching_step.specs.Step.{first_hits, second_hits, to_open, match_table, match_floats, match_refusal, accepted, lists_after, decided_of, pair_of, no_pair, refused_with, matched, matched_floats, Decidable, Ready};
+ghost use Rattle.matching_step.specs.Step.{match_table, match_floats, lists_after, decided_of, pair_of, no_pair, refused_with, matched, matched_floats, Decidable, Ready};
 
-use crate::{Decided, Matched, changing, listing};
+use crate::{Decided, Matched, Stepped, changing, listing};
 use matching::Picks;
+use matching::matrix::LentMatrix;
 use pairs::Pair;
 use parts::TrackedObject;
-use passes::{Lengths, checks, lists};
+use parts::settings::Settings;
+use passes::frame::LentFrame;
+use passes::{checks, lists};
+use table::refusals::Refusal;
 use table::{Lists, Phase, Table, making};
 
 // Both passes, and who is left over.
-fn decide(t: Table, detections: usize, distances: &[f64]) -> Decided
-    requires { Decidable t detections (length distances.now) }
-    ensures { result ≡ decided_of t detections (frame 0 [] [] [] distances.now) }
+fn decide(t: &Table, detections: usize, f: LentFrame<'_>) -> Decided
+    requires { Decidable t.now detections (length f.distances.now) }
+    ensures { result ≡ decided_of t.now detections (lent_frame f.entry) }
 {
-    let n = t.counts.records;
-    let threshold = t.config.distance_threshold;
-    let alive = t.lists.alive;
-    let initializing = t.lists.initializing;
-    let first = passes::first_pass(distances, detections, n, threshold, alive);
-    let second = passes::second_pass(distances, detections, n, threshold, initializing, first);
-    let left = lists::left_over(detections, first, second);
+    let m = LentMatrix {
+        entries: f.distances,
+        rows: detections,
+        cols: t.counts.records,
+        threshold: t.config.distance_threshold,
+    };
+    let first = passes::first_pass(m, &t.lists.alive);
+    let second = passes::second_pass(m, &t.lists.initializing, &first);
+    let left = lists::left_over(detections, &first, &second);
     Decided {
         first,
         second,
@@ -34,126 +39,76 @@ fn decide(t: Table, detections: usize, distances: &[f64]) -> Decided
 }
 
 // The lists that step 3 reads.
-fn lists_after(t: Table, first: Picks, second: Picks) -> Lists
-    requires { (t.counts.records ≤ 64) × (t.lists.alive.count ≤ 64) × (t.lists.dead.count ≤ 64) × (first.count ≤ 32) × NamesOnce t.counts.records (numbers t.lists.dead) × (second ≡ picks_of (picked second)) }
-    ensures { result ≡ lists_after t first second }
+fn lists_after(t: &Table, first: &Picks, second: &Picks) -> Lists
+    requires { (t.now.counts.records ≤ 64) × (t.now.lists.alive.count ≤ 64) × (t.now.lists.dead.count ≤ 64) × (first.now.count ≤ 32) × NamesOnce t.now.counts.records (numbers t.now.lists.dead) × (second.now ≡ picks_of (picked second.now)) }
+    ensures { result ≡ lists_after t.now first.now second.now }
 {
-    let none = making::no_numbers();
-    let old = lists::old_ones(t.counts.records, t.lists.alive, t.lists.dead, first);
-    let candidates = lists::candidates(second);
     Lists {
-        alive: none,
-        initializing: none,
-        dead: none,
-        old,
-        candidates,
+        old: lists::old_ones(t.counts.records, &t.lists.alive, &t.lists.dead, first),
+        candidates: lists::candidates(second),
+        ..making::no_lists()
     }
 }
 
 // Hits of pass 1, hits of pass 2, openings, on a table that passed its checks.
-fn match_step(
-    t: Table,
-    s: &mut [f64],
-    points: &[f64],
-    scores: &[f64],
-    has_scores: &[u8],
-    distances: &[f64],
-    period: u32,
-    decided: Decided,
-) -> Table
-    requires { Ready t (length s.old) (length has_scores.now) (frame period points.now scores.now has_scores.now distances.now) × (decided ≡ decided_of t (length has_scores.now) (frame period points.now scores.now has_scores.now distances.now)) }
-    ensures value { result ≡ match_table t s.old (length has_scores.now) (frame period points.now scores.now has_scores.now distances.now) }
-    ensures s_after { s.new ≡ match_floats t s.old (length has_scores.now) (frame period points.now scores.now has_scores.now distances.now) }
+fn match_step(t: &Table, s: &mut [f64], f: LentFrame<'_>, decided: &Decided) -> Table
+    requires { Ready t.now (length s.old) (length f.has_scores.now) (lent_frame f) × (decided.now ≡ decided_of t.now (length f.has_scores.now) (lent_frame f)) }
+    ensures value { result ≡ match_table t.now s.old (length f.entry.has_scores.now) (lent_frame f.entry) }
+    ensures s_after { s.new ≡ match_floats t.now s.old (length f.entry.has_scores.now) (lent_frame f.entry) }
 {
     let config = t.config;
-    let records = t.records;
-    let first = decided.first;
-    let second = decided.second;
-    let one = changing::hit_each(
-        config, records, t.counts, s, points, scores, has_scores, distances, period, first,
-    );
-    let one_records = one.records;
-    let two = changing::hit_each(
-        config,
-        one_records,
-        one.counts,
-        s,
-        points,
-        scores,
-        has_scores,
-        distances,
-        period,
-        second,
-    );
-    let two_records = two.records;
-    let three = changing::open_each(
-        config,
-        two_records,
+    let settings = Settings { config };
+    let one = changing::hit_each(settings, t.records, t.counts, s, f, &decided.first);
+    let two = changing::hit_each(settings, one.records, one.counts, s, f, &decided.second);
+    let Stepped { records, counts } = changing::open_each(
+        settings,
+        two.records,
         two.counts,
         s,
-        points,
-        scores,
-        has_scores,
-        period,
-        decided.left,
+        f,
+        &decided.left,
     );
-    let three_records = three.records;
-    let three_counts = three.counts;
-    let lists = lists_after(t, first, second);
+    let lists = lists_after(t, &decided.first, &decided.second);
     Table {
-        records: three_records,
+        records,
         config,
-        counts: three_counts,
+        counts,
         phase: Phase::Reid,
         lists,
     }
 }
 
+// No pair.
+fn no_pairs() -> [Pair; 32]
+    ensures { result ≡ filled 32 no_pair [] }
+{
+    [Pair::default(); 32]
+}
+
 // The pairs of both passes.
 fn pairs_of(
-    records: [TrackedObject; 64],
+    records: &[TrackedObject; 64],
     n: usize,
-    distances: &[f64],
+    f: LentFrame<'_>,
     detections: usize,
-    first: Picks,
-    second: Picks,
+    first: &Picks,
+    second: &Picks,
 ) -> [Pair; 32]
-    requires { (first.count + second.count ≤ 32) × (detections ≤ 32) × (n ≤ 64) × (length distances.now ≡ detections * n) × EachBelow detections first.count first.rows × EachBelow n first.count first.cols × EachBelow detections second.count second.rows × EachBelow n second.count second.cols }
-    ensures { result ≡ filled 32 no_pair (map (pair_of records (frame 0 [] [] [] distances.now) n 1) (picked first) ++ map (pair_of records (frame 0 [] [] [] distances.now) n 2) (picked second)) }
+    requires { (first.now.count + second.now.count ≤ 32) × (detections ≤ 32) × (n ≤ 64) × (length f.distances.now ≡ detections * n) × EachBelow detections first.now.count first.now.rows × EachBelow n first.now.count first.now.cols × EachBelow detections second.now.count second.now.rows × EachBelow n second.now.count second.now.cols }
+    ensures { result ≡ filled 32 no_pair (map (pair_of records.now (lent_frame f.entry) n 1) (picked first.now) ++ map (pair_of records.now (lent_frame f.entry) n 2) (picked second.now)) }
 {
-    let none = Pair {
-        detection: 0,
-        global_id: 0,
-        pass: 0,
-        distance: 0.0,
-    };
-    let front = listing::add_pairs([none; 32], 0, records, distances, detections, n, first, 1);
-    listing::add_pairs(
-        front,
-        first.count,
-        records,
-        distances,
-        detections,
-        n,
-        second,
-        2,
-    )
+    let front = listing::add_pairs(no_pairs(), 0, records, n, f, detections, first, 1);
+    listing::add_pairs(front, first.count, records, n, f, detections, second, 2)
 }
 
 // A refusal: no pair, and the table as it was.
-fn refused(t: Table, refusal: u32) -> Matched
-    ensures { result ≡ refused_with refusal t }
+fn refused(t: Table, refusal: Refusal) -> Matched
+    ensures { result ≡ refused_with (Some refusal) t }
 {
-    let none = Pair {
-        detection: 0,
-        global_id: 0,
-        pass: 0,
-        distance: 0.0,
-    };
     Matched {
-        pairs: [none; 32],
+        pairs: no_pairs(),
         count: 0,
-        refusal,
+        refusal: Some(refusal),
         table: t,
     }
 }
@@ -162,50 +117,40 @@ fn refused(t: Table, refusal: u32) -> Matched
 pub fn match_table(
     t: Table,
     s: &mut [f64],
-    period: u32,
     detections: usize,
-    points: &[f64],
-    scores: &[f64],
-    has_scores: &[u8],
-    distances: &[f64],
+    f: LentFrame<'_>,
     places: usize,
 ) -> Matched
-    ensures value { result ≡ matched t s.old detections (frame period points.now scores.now has_scores.now distances.now) places }
+    ensures value { result ≡ matched t s.old detections (lent_frame f.entry) places }
     ensures count_bound { (result.count ≤ 32) × (result.count ≤ places) }
-    ensures s_after { s.new ≡ matched_floats t s.old detections (frame period points.now scores.now has_scores.now distances.now) places }
+    ensures s_after { s.new ≡ matched_floats t s.old detections (lent_frame f.entry) places }
 {
-    let lengths = Lengths {
-        points: points.len(),
-        scores: scores.len(),
-        has_scores: has_scores.len(),
-        distances: distances.len(),
-        pairs: places,
-    };
-    let floats = s.len();
-    let given = checks::given_refusal(t, floats, period, detections, lengths);
-    if given != 0 {
-        return refused(t, given);
-    }
-    let decided = decide(t, detections, distances);
-    let refusal = checks::decided_refusal(t.config, t.counts, points, decided.left.count);
-    if refusal != 0 {
+    let lengths = f.lengths(places);
+    if let Err(refusal) = checks::given_refusal(&t, s.len(), f.period, detections, lengths) {
         return refused(t, refusal);
     }
-    let records = t.records;
+    let decided = decide(&t, detections, f);
+    if let Err(refusal) = checks::decided_refusal(
+        t.config,
+        t.counts,
+        f.points,
+        decided.left.count,
+    ) {
+        return refused(t, refusal);
+    }
     let pairs = pairs_of(
-        records,
+        &t.records,
         t.counts.records,
-        distances,
+        f,
         detections,
-        decided.first,
-        decided.second,
+        &decided.first,
+        &decided.second,
     );
-    let table = match_step(t, s, points, scores, has_scores, distances, period, decided);
-    let count = decided.first.count + decided.second.count;
+    let table = match_step(&t, s, f, &decided);
     Matched {
         pairs,
-        count,
-        refusal: 0,
+        count: decided.first.count + decided.second.count,
+        refusal: None,
         table,
     }
 }

@@ -1,28 +1,23 @@
 // Rule 80: frames run through the public calls: a fish hit each frame, and a coarse run beside a fine one on the same fish.
-ghost use Rattle.std.specs.Prelude.{◌<◌, ◌≤◌};
+ghost use Rattle.std.specs.Prelude.{◌≡◌, ◌<◌};
 
-use crate::put_or_none;
-use filter::FilterSettings;
-use parts::{ReidCounter, TrackerConfig};
+use std::alloc::{AllocError, Global};
 use std::io;
-use table::Table;
+use tracker::{FilterSettings, LentFrame, Refusal, Table, TrackerConfig};
 
 // One point of one coordinate, 8 records, no history: 8 blocks of 8 floats. Maximum 15, delay 7.
-fn settings() -> TrackerConfig {
-    settings_with(7, ReidCounter::Absent)
-}
-
-// The same with this delay and this ReID maximum.
-fn settings_with(delay: i32, reid: ReidCounter) -> TrackerConfig {
+pub(crate) fn settings() -> TrackerConfig
+    ensures { (result.points ≡ 1) × (result.dims ≡ 1) × (result.pointwise_hit_counter_max ≡ 4) }
+{
     TrackerConfig {
         points: 1,
         dims: 1,
         capacity: 8,
         past_detections_length: 0,
         hit_counter_max: 15,
-        initialization_delay: delay,
+        initialization_delay: 7,
         pointwise_hit_counter_max: 4,
-        reid_hit_counter_max: reid,
+        reid_hit_counter_max: None,
         distance_threshold: 1.0,
         detection_threshold: 0.0,
         reid_distance_threshold: 1.0,
@@ -31,174 +26,134 @@ fn settings_with(delay: i32, reid: ReidCounter) -> TrackerConfig {
     }
 }
 
-fn distance(a: f64, b: f64) -> f64 {
-    if a < b {
-        return b - a;
+// The distances of these fish to the first records: a record stands at the first float of its block of 8.
+fn measured(
+    alloc: Global,
+    fish: &[f64],
+    storage: &[f64],
+    records: usize,
+) -> Result<Vec<f64>, AllocError> {
+    let mut distances = Vec::new(alloc);
+    for x in fish {
+        for at in storage.iter().step_by(8).take(records) {
+            distances.push((x - at).abs())?;
+        }
     }
-    a - b
+    Ok(distances)
 }
 
-// The distances of a fish to the first n records, behind those that stand there.
-fn measured(mut distances: [f64; 32], start: usize, x: f64, storage: &[f64], n: usize) -> [f64; 32]
-    requires { start ≤ 24 }
-{
-    let mut k = 0;
-    while k < 8 {
-        let at = start + k;
-        let from = 8 * k;
-        if k < n {
-            if at < 32 {
-                if from < storage.len() {
-                    distances[at] = distance(x, storage[from]);
-                }
-            }
-        }
-        k += 1;
-    }
-    distances
-}
-
-// A frame in which the first n of these fish are seen: predict, measure, match, and step 3 with no ReID distance declared.
-fn frame(t: Table, storage: &mut [f64], period: u32, fish: [f64; 3], n: usize) -> Table {
-    let first = tracker::predict(t, storage);
-    let before = first.table;
-    let counts = before.counts;
-    let records = counts.records;
-    if 8 < records {
-        return t;
-    }
-    let mut distances = [0.0; 32];
-    let mut d = 0;
-    while d < 3 {
-        if d < n {
-            distances = measured(distances, d * records, fish[d], storage, records);
-        }
-        d += 1;
-    }
-    let scores = [1.0; 3];
-    let has_scores = [0u8; 3];
-    if 3 < n {
-        return t;
-    }
-    let r = by_value::match_detections(
-        before,
-        storage,
+// A frame in which these fish are seen: predict, measure, match, and step 3 with no ReID distance declared.
+fn frame(
+    alloc: Global,
+    table: Table,
+    storage: &mut [f64],
+    period: u32,
+    fish: &[f64],
+) -> Result<Table, AllocError> {
+    let before = tracker::predict(table, storage).table;
+    let seen = fish.len();
+    let distances = measured(alloc, fish, storage, before.counts.records)?;
+    let scores = vec![in alloc; 1.0; seen]?;
+    let has_scores = vec![in alloc; 0; seen]?;
+    let lent = LentFrame {
         period,
-        n,
-        &fish[..n],
-        &scores[..n],
-        &has_scores[..n],
-        &distances[..n * records],
-        by_value::no_pairs(),
-        40,
-    );
-    let answer = r.answer;
-    let after = answer.table;
-    let none = [0.0; 0];
-    let mut active = [0u32; 8];
-    tracker::reid(after, storage, &none, &mut active).table
+        points: fish,
+        scores: &scores,
+        has_scores: &has_scores,
+        distances: &distances,
+    };
+    let pairs = by_value::no_pairs();
+    let after = by_value::match_detections(before, storage, seen, lent, pairs, 40).answer;
+    Ok(tracker::reid(after.table, storage, &[], &mut [0; 8]).table)
+}
+
+// The total; 0 for a table that is not whole.
+fn total(table: Table) -> usize {
+    tracker::total_object_count(table).unwrap_or(0)
+}
+
+// How many are active; 0 for a table that is not whole.
+fn current(table: Table) -> usize {
+    tracker::current_object_count(table).unwrap_or(0)
 }
 
 // Delay 7, maximum 15, period 1, hit each frame: permanent ID on the seventh hit.
-pub(crate) fn seventh_hit(rt: &impl Print) -> io::Result<()> {
+pub(crate) fn seventh_hit(rt: &(impl Print + AllocGlobal)) -> io::Result<()> {
     let mut storage = [0.0; 64];
-    let mut t = tracker::new(settings(), &storage).table;
-    rt.write_all(b"delay 7, maximum 15, period 1, hit each frame: total")?;
-    let mut hits = 0u64;
-    while hits < 9 {
-        t = frame(t, &mut storage, 1, [0.0; 3], 1);
-        let total = tracker::total_object_count(t);
-        rt.write_all(b" ")?;
-        rt.print(total.count as u64)?;
-        rt.write_all(b" after ")?;
-        rt.print(hits)?;
-        hits += 1;
+    let mut table = tracker::new(settings(), &storage).table;
+    print!(rt; "delay 7, maximum 15, period 1, hit each frame: total")?;
+    for hits in 0..9 {
+        table = frame(rt.alloc(), table, &mut storage, 1, &[0.0])?;
+        print!(rt; " {} after {hits}", total(table))?;
     }
-    rt.write_all(b" hits\n")
+    println!(rt; " hits")
 }
 
-// Three fish, seen at ticks 0 to 11, 3 to 6 and 6 to 11; a frame each period.
-fn run(rt: &impl Print, period: u32) -> io::Result<()>
+// The fish in sight at a tick: three, seen at ticks 0 to 11, 3 to 6 and 6 to 11.
+fn in_sight(alloc: Global, tick: u32) -> Result<Vec<f64>, AllocError> {
+    let fish = [(0.0, 0..=11), (10.0, 3..=6), (20.0, 6..=11)];
+    let seen = fish.iter().filter(|(_, ticks)| ticks.contains(&tick));
+    seen.map(|(x, _)| *x).collect(alloc)
+}
+
+// Twelve ticks with a frame each period.
+fn run(rt: &(impl Print + AllocGlobal), period: u32) -> io::Result<()>
     requires { 0 < period }
 {
     let mut storage = [0.0; 64];
-    let mut t = tracker::new(settings(), &storage).table;
-    let mut tick = 0;
-    while tick < 12 {
-        if tick % period == 0 {
-            let mut fish = [0.0; 3];
-            let mut n = 1;
-            if laws::both(3 <= tick, tick <= 6) {
-                fish[n] = 10.0;
-                n += 1;
-            }
-            if 6 <= tick {
-                fish[n] = 20.0;
-                n += 1;
-            }
-            t = frame(t, &mut storage, period, fish, n);
-        }
-        tick += 1;
+    let mut table = tracker::new(settings(), &storage).table;
+    for tick in (0..12).step_by(period as usize) {
+        let fish = in_sight(rt.alloc(), tick)?;
+        table = frame(rt.alloc(), table, &mut storage, period, &fish)?;
     }
-    let total = tracker::total_object_count(t);
-    let current = tracker::current_object_count(t);
-    rt.write_all(b"three fish, period ")?;
-    rt.print(period as u64)?;
-    rt.write_all(b": total ")?;
-    rt.print(total.count as u64)?;
-    rt.write_all(b", current ")?;
-    rt.print(current.count as u64)?;
-    rt.write_all(b"\n")
+    println!(rt;
+        "three fish, period {period}: total {}, current {}",
+        total(table),
+        current(table)
+    )
 }
 
 // A coarse run beside a fine one on the same fish: the delay is counted in hits, so that the counts part.
-pub(crate) fn coarse_and_fine(rt: &impl Print) -> io::Result<()> {
+pub(crate) fn coarse_and_fine(rt: &(impl Print + AllocGlobal)) -> io::Result<()> {
     run(rt, 1)?;
     run(rt, 3)
 }
 
-// The hit counter of the first record.
-fn put_counter(rt: &impl Print, t: Table) -> io::Result<()> {
-    let records = t.records;
-    let o = records[0];
-    let life = o.life;
-    rt.write_all(b" ")?;
-    put_or_none(rt, life.hit_counter)
+// ReID maximum 2, maximum 15, delay 0, period 1; opened in frame 1, missed in 2, hit in 3 to 6: dropped in frame 7 with hit counter 4.
+pub(crate) fn dropped_while_hit(rt: &(impl Print + AllocGlobal)) -> io::Result<()> {
+    let mut storage = [0.0; 64];
+    let config = TrackerConfig {
+        initialization_delay: 0,
+        reid_hit_counter_max: Some(2),
+        ..settings()
+    };
+    let mut table = tracker::new(config, &storage).table;
+    print!(rt; "ReID maximum 2, delay 0, missed in frame 2: hit counters of frames 1 to 6")?;
+    for n in 1..=6 {
+        let fish: &[f64] = if n == 2 { &[] } else { &[0.0] };
+        table = frame(rt.alloc(), table, &mut storage, 1, fish)?;
+        print!(rt; " {}", table.records[0].life.hit_counter)?;
+    }
+    let last = tracker::predict(table, &mut storage).table;
+    println!(rt; "; records in frame 7: {}", last.counts.records)
 }
 
-// ReID maximum 2, maximum 15, delay 0, period 1; opened in frame 1, missed in 2, hit in 3 to 6: dropped in frame 7 with hit counter 4.
-pub(crate) fn dropped_while_hit(rt: &impl Print) -> io::Result<()> {
-    let mut storage = [0.0; 64];
-    let mut t = tracker::new(settings_with(0, ReidCounter::Present(2)), &storage).table;
-    rt.write_all(b"ReID maximum 2, delay 0, missed in frame 2: hit counters of frames 1 to 6")?;
-    let mut n = 1u64;
-    while n < 7 {
-        let mut fish = 1;
-        if n == 2 {
-            fish = 0;
-        }
-        t = frame(t, &mut storage, 1, [0.0; 3], fish);
-        put_counter(rt, t)?;
-        n += 1;
-    }
-    let last = tracker::predict(t, &mut storage).table;
-    let counts = last.counts;
-    rt.write_all(b"; records in frame 7: ")?;
-    rt.print(counts.records as u64)?;
-    rt.write_all(b"\n")
+// What making answers at this delay: 0, or its refusal.
+fn refusal_at(delay: i32) -> u32 {
+    let config = TrackerConfig {
+        initialization_delay: delay,
+        ..settings()
+    };
+    tracker::new(config, &[0.0; 64])
+        .refusal
+        .map_or(0, Refusal::number)
 }
 
 // Delay 14 of 15 is accepted, 15 is refused by 2.
 pub(crate) fn delays(rt: &impl Print) -> io::Result<()> {
-    let storage = [0.0; 64];
-    let mut config = settings();
-    config.initialization_delay = 14;
-    let first = tracker::new(config, &storage);
-    config.initialization_delay = 15;
-    let second = tracker::new(config, &storage);
-    rt.write_all(b"maximum 15: delay 14 answers ")?;
-    rt.print(first.refusal as u64)?;
-    rt.write_all(b", delay 15 answers ")?;
-    rt.print(second.refusal as u64)?;
-    rt.write_all(b"\n")
+    println!(rt;
+        "maximum 15: delay 14 answers {}, delay 15 answers {}",
+        refusal_at(14),
+        refusal_at(15)
+    )
 }

@@ -1,24 +1,16 @@
 // Rule 47: the pair list, which the host lends.
 #![tactic(auto)]
 
-ghost use Rattle.std.specs.Prelude.{◌≡◌, ◌++◌, ◌<◌, ◌≤◌, length, get_or, set, take, drop};
-ghost use Rattle.pairs.specs.Blank.{blank};
+ghost use Rattle.std.specs.Prelude.{◌≡◌, ◌++◌, ◌<◌, ◌≤◌, length, set, drop};
 
 // A hit: the detection's number, the record's global ID, the pass, 1 or 2, and the distance.
-#[derive(Clone, Copy)]
+// The pass is a number and no enum, which would be narrower: a lent list may hold any number there before it is written (`refusals` lends 79), and `put_pairs` leaves the rest as it was.
+#[derive(Clone, Copy, Default)]
 pub struct Pair {
     pub detection: usize,
     pub global_id: u32,
     pub pass: u32,
     pub distance: f64,
-}
-
-// The pair at i.
-fn pair_at(from: [Pair; 32], i: usize) -> Pair
-    requires { i < 32 }
-    ensures { result ≡ get_or from i blank }
-{
-    from[i]
 }
 
 // Writes one pair into a lent list.
@@ -29,14 +21,13 @@ fn put_pair(list: &mut [Pair], i: usize, pair: Pair)
     list[i] = pair;
 }
 
-// Writes the first n of the pairs over the front of a lent list.
-pub fn put_pairs(list: &mut [Pair], from: [Pair; 32], n: usize)
-    requires { (n ≤ 32) × (n ≤ length list.old) }
-    ensures { list.new ≡ take n from ++ drop n list.old }
+// Writes the pairs over the front of a lent list.
+#[tactic(auto, using(crate::proofs::Front::front_turn))]
+pub fn put_pairs(list: &mut [Pair], from: &[Pair])
+    requires { length from.now ≤ length list.old }
+    ensures { list.new ≡ from.now ++ drop (length from.now) list.old }
 {
-    let mut i = 0;
-    while i < n {
-        put_pair(list, i, pair_at(from, i));
-        i += 1;
+    for (i, pair) in from.iter().enumerate() {
+        put_pair(list, i, *pair);
     }
 }

@@ -21,9 +21,6 @@ module _ (c : TrackerConfig) (h : Sizes c) where
   pub block_most : block_size c ≤ 864
   block_most = omega (arith, coords-most, width-most, history_most)
 
-  pub block_small : block_size c < 65536
-  block_small = omega (arith, block_most)
-
 module _ (c : TrackerConfig) where
   pub filter_inside : 6 * coords c ≤ block_size c
   filter_inside = omega arith

@@ -1,6 +1,5 @@
 -- Laws of the parts of a record, and what their functions cite.
 pub mod Bounds
-pub mod Kept
 pub mod LifeLaws
 pub mod PastLaws
 pub mod PointLaws

@@ -1,15 +1,15 @@
 -- Rules 45 and 62: afterwards the history is the last `most` of the old history and the entry, and the rest of the list is as it was.
 use mathlib.Core.Path.{◌≡◌, refl, sym, ◌∙◌, ap}
 use mathlib.Core.Bool.{Bool, true, false, cond}
-use mathlib.Core.List.{List, ◌++◌}
+use mathlib.Core.List.{List, [], ◌∷◌, ◌++◌}
 use Prim.Native.Nat.{ℕ, suc, ◌+◌, ◌-◌, ◌*◌, ◌<◌, ◌≤◌, min}
 use native.Mathlib.Nat.{zero-mul, one-mul, suc-mul, mul-le-mul_right}
 use native.Mathlib.Omega.{arith}
 use borrow.Author.Tests.{ltb-true, ltb-false}
 use lib.Dec.{ltb}
-use lib.ListN.{length, take, drop, length-drop}
+use lib.ListN.{length, set, take, drop, length-drop}
 use lib.Seq.{paste, length-paste, length-take-le, take-add, take_all, drop_at, drop-drop, drop-append-le}
-use Rattle.laws.proofs.Pasting.{paste_front, paste_behind, paste_part, paste_here}
+use Rattle.laws.proofs.Pasting.{paste_front, paste_behind, paste_part, paste_here, paste_one}
 use Rattle.parts.specs.Past.{room_made, place_of, pushed}
 
 -- all entries but one, and one
@@ -94,3 +94,11 @@ module _ {A : Type 0} (most width at count : ℕ) (l : List A)
           paste_front made place entry width at (omega arith) (omega arith) ∙ room.front,
           paste_behind made place entry width (at + most * width) (omega arith) (omega arith) (omega arith) ∙ room.behind,
         )
+
+-- entries of one element: the new one is stored at its place
+pub one_pushed : {A : Type 0} (most count : ℕ) (l : List A) (entry : A) → 0 < most → count ≤ most → most ≤ length l
+    → set (room_made most 1 0 count l) (min count (most - 1)) entry ≡ pushed most 1 0 count (entry ∷ []) l
+one_pushed most count l entry some full fits =
+    let long = (room most 1 0 count l some full (omega arith)).long in
+    let place : place_of most 1 0 count ≡ min count (most - 1) = omega arith in
+    rw place (paste_one (room_made most 1 0 count l) (min count (most - 1)) entry (omega arith))

@@ -1,16 +1,14 @@
 -- Rules 32, 45 and 46: what becomes of each point's counter and seen flag.
-use mathlib.Core.Path.{◌≡◌, refl, ap}
+use mathlib.Core.Path.{◌≡◌, refl, sym, ◌∙◌, ap}
 use mathlib.Core.Bool.{Bool, true, false, cond, ◌||◌}
-use mathlib.Core.List.{List, [], ◌∷◌}
+use mathlib.Core.List.{List, [], ◌∷◌, ◌++◌}
 use mathlib.Core.Logic.{◌≢◌}
-use Prim.Native.Nat.{ℕ, zero, suc, ◌+◌, ◌-◌, ◌^◌, ◌<◌, ◌≤◌, min}
+use Prim.Native.Nat.{ℕ, zero, suc, ◌+◌, ◌-◌, ◌<◌, ◌≤◌, min}
 use native.Mathlib.Omega.{arith}
-use lib.Bits.{or_lt}
 use lib.Dec.{eqb}
 use lib.Ieee.{Float, nan, lt}
-use lib.ListN.{length, get_or, set, length-set}
-use lib.Pow.{pow-lt}
-use lib.Seq.{get_or-set_same, get_or-set_other}
+use lib.ListN.{length, get_or, get_or-append, set, length-set, take, drop, take-append-drop}
+use lib.Seq.{get_or-set_same, get_or-set_other, set-append_left, length-take-le}
 use Rattle.laws.specs.Float64.{f1}
 use Rattle.laws.specs.Turns.{turns}
 use Rattle.laws.proofs.Flags.{bit_here, bit_there}
@@ -27,10 +25,6 @@ set_here false i f = refl
 set_there : (b : Bool) (i k f : ℕ) → i ≢ k → has_flag i (cond b (with_flag k f) f) ≡ has_flag i f
 set_there true i k f h = ap (λ (n : ℕ). eqb n 1) (bit_there f k i (omega arith))
 set_there false i k f h = refl
-
-set_fits : (b : Bool) (k f : ℕ) → k < 16 → f < 2 ^ 16 → cond b (with_flag k f) f < 2 ^ 16
-set_fits true k f h p = or_lt 16 f (2 ^ k) p (pow-lt h)
-set_fits false k f h p = p
 
 module _ (n : ℕ) (has : Bool) (t : Float) (without : Bool) (scores : List Float) (flags : ℕ) where
   abbrev turn_flags : ℕ → ℕ → ℕ
@@ -50,12 +44,6 @@ module _ (n : ℕ) (has : Bool) (t : Float) (without : Bool) (scores : List Floa
   flag_behind i h =
       turns_keep turn_flags (has_flag i) n flags
       (λ k f hk. set_there (above has t without (get_or scores k nan)) i k f (omega arith))
-
-  pub flags_fit : flags < 2 ^ 16 → n ≤ 16 → flags_set n has t without scores flags < 2 ^ 16
-  unfolding flags_set
-  flags_fit p h =
-      turns_hold turn_flags (λ f. f < 2 ^ 16) n flags
-      (λ k f hk. set_fits (above has t without (get_or scores k nan)) k f (omega arith)) p
 
 -- ---- the counters
 
@@ -94,6 +82,18 @@ counter_fallen n l i h hl =
     turns_once fall (λ r. get_or r i 0) (λ v. v - 1) i n l h
     (store_here (get_or (turns fall i l) i 0 - 1) true (turns fall i l) i (rw (length_fallen i l) hl))
     (λ k r hk. store_there (get_or r k 0 - 1) true r i k)
+
+-- the first n counters, lent as a part and put back
+pub fallen_part : (k n : ℕ) (l : List ℕ) → k ≤ n → n ≤ length l → points_fallen k (take n l) ++ drop n l ≡ points_fallen k l
+unfolding points_fallen turns
+fallen_part zero n l h hl = take-append-drop n l
+fallen_part (suc k) n l h hl =
+    let part = points_fallen k (take n l) in
+    let long : k < length part = rw (length_fallen k (take n l)) (omega (arith, length-take-le n l hl)) in
+    let e = fallen_part k n l (omega arith) hl in
+    sym (set-append_left part (drop n l) k (get_or part k 0 - 1) long)
+    ∙ ap (λ (v : ℕ). set (part ++ drop n l) k (v - 1)) (sym (get_or-append part (drop n l) 0 k long))
+    ∙ ap (λ (r : List ℕ). set r k (get_or r k 0 - 1)) e
 
 pub fallen_in_range : (n : ℕ) (l : List ℕ) (m : ℕ) → PointsInRange m l → PointsInRange m (points_fallen n l)
 unfolding points_fallen

@@ -1,5 +1,5 @@
 -- Rules 45 and 62: a history of at most so many entries, oldest first, each of so many elements of a list, from a place of the list on.
-use Rattle.std.specs.Prelude.{Bool, false, cond, List, ℕ, ◌+◌, ◌-◌, ◌*◌, min, ltb, leb, ℤ, pos, negsuc, drop}
+use Rattle.std.specs.Prelude.{Bool, false, cond, List, ℕ, ◌+◌, ◌-◌, ◌*◌, min, ltb, leb, ℤ, pos, negsuc, drop, Option, Some, None}
 use Rattle.std.proofs.Math.Seq.{paste}
 
 -- where the history is full the oldest leaves, and the others move down
@@ -15,6 +15,7 @@ abbrev pub pushed : {A : Type 0} → ℕ → ℕ → ℕ → ℕ → List A → 
 pushed most width at count entry l = paste (room_made most width at count l) (place_of most width at count) entry width
 
 -- a full history takes an entry if the oldest has an age, and the record's age is at least that times the length
-abbrev pub is_due : ℤ → ℕ → ℕ → Bool
-is_due (negsuc n) age most = false
-is_due (pos oldest) age most = leb (oldest * most) age
+abbrev pub is_due : Option ℤ → ℕ → ℕ → Bool
+is_due None age most = false
+is_due (Some (negsuc n)) age most = false
+is_due (Some (pos oldest)) age most = leb (oldest * most) age

@@ -1,11 +1,9 @@
 -- Rule 14: what callers have of a record from wholeness and from the checks of a step.
-use Rattle.std.specs.Prelude.{false, List, ℕ, ◌<◌, ◌≤◌, get_or, negsuc}
+use Rattle.std.specs.Prelude.{false, List, ℕ, ◌<◌, ◌≤◌, get_or, Option, Some, None, ℤ}
 use Rattle.std.specs.Int.Signed.{mag}
 use Rattle.parts.specs.declared.TrackerConfig.{TrackerConfig}
 use Rattle.parts.specs.declared.TrackedObject.{TrackedObject}
 use Rattle.parts.specs.declared.PastDetection.{PastDetection}
-use Rattle.parts.specs.declared.ReidCounter.{ReidCounter}
-use Rattle.parts.specs.declared.ReidCounter.TheVariants.{Absent, Present}
 use Rattle.parts.specs.declared.Life.{Life}
 
 -- the sizes of rule 3 that the functions on a record lean on
@@ -17,9 +15,9 @@ pub record Sizes (c : TrackerConfig) : Type 0 where
   pub past_most : c.past_detections_length ≤ 8
   pub pointwise_most : c.pointwise_hit_counter_max ≤ 10000
 
-abbrev pub ReidInRange : ReidCounter → Type 0
-ReidInRange Absent = Unit {0}
-ReidInRange (Present c) = mag c ≤ 10000
+abbrev pub ReidInRange : Option ℤ → Type 0
+ReidInRange None = Unit {0}
+ReidInRange (Some c) = mag c ≤ 10000
 
 pub record LifeInRange (l : Life) : Type 0 where
   pub age : l.age ≤ 200000000
@@ -32,11 +30,15 @@ PointsInRange n l = (i : ℕ) → i < n → get_or l i 0 ≤ 10000
 
 -- what stands in no history: an entry without an age and without scores
 abbrev pub unaged : PastDetection
-unaged = record { age = negsuc 0; has_scores = false }
+unaged = record { age = None; has_scores = false }
+
+abbrev pub AgeInRange : Option ℤ → Type 0
+AgeInRange None = Unit {0}
+AgeInRange (Some age) = mag age ≤ 200000000
 
 -- the stored ages of the first n entries of a history
 abbrev pub AgesInRange : ℕ → List PastDetection → Type 0
-AgesInRange n l = (i : ℕ) → i < n → mag (get_or l i unaged).age ≤ 200000000
+AgesInRange n l = (i : ℕ) → i < n → AgeInRange (get_or l i unaged).age
 
 pub record ObjectInRange (c : TrackerConfig) (o : TrackedObject) : Type 0 where
   pub life : LifeInRange o.life

@@ -1,9 +1,8 @@
 // Rule 4: where the parts of a record's block lie.
 ghost use Rattle.std.specs.Prelude.{◌≡◌};
-ghost use Rattle.parts.specs.Ranges.{Sizes};
 ghost use Rattle.parts.specs.Layout.{layout_of};
 
-use crate::TrackerConfig;
+use crate::settings::Settings;
 
 // A detection's coordinates, the floats of a stored one, where the last detection and the history start, and the block's size.
 #[derive(Clone, Copy)]
@@ -15,10 +14,10 @@ pub struct Layout {
     pub size: usize,
 }
 
-pub fn layout_of(config: TrackerConfig) -> Layout
-    requires { Sizes config }
-    ensures { result ≡ layout_of config }
+pub fn layout_of(settings: Settings) -> Layout
+    ensures { result ≡ layout_of settings.config }
 {
+    let config = settings.config;
     let coords = config.points * config.dims;
     let width = coords + config.points;
     let last_at = 6 * coords;

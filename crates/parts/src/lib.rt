@@ -5,10 +5,11 @@ pub mod block;
 pub mod counters;
 pub mod past;
 pub mod points;
+pub mod settings;
 
 use filter::FilterSettings;
 
-// The settings of a tracker. A host may pass any number of its type in any field.
+// The settings of a tracker. A host may pass any number of its type in any field. A ReID threshold stands beside its flag: `made` gives back what a host set, and an `Option` would lose the threshold where the flag is off.
 #[derive(Clone, Copy)]
 pub struct TrackerConfig {
     pub points: usize,
@@ -18,7 +19,7 @@ pub struct TrackerConfig {
     pub hit_counter_max: i32,
     pub initialization_delay: i32,
     pub pointwise_hit_counter_max: u32,
-    pub reid_hit_counter_max: ReidCounter,
+    pub reid_hit_counter_max: Option<i32>,
     pub distance_threshold: f64,
     pub detection_threshold: f64,
     pub reid_distance_threshold: f64,
@@ -26,60 +27,39 @@ pub struct TrackerConfig {
     pub filter: FilterSettings,
 }
 
-// The ReID counter, and its maximum: absent, or a number.
-#[derive(Clone, Copy)]
-pub enum ReidCounter {
-    Absent,
-    Present(i32),
-}
-
-// The permanent ID: none yet, or the number.
-#[derive(Clone, Copy)]
-pub enum PermanentId {
-    Unissued,
-    Issued(u32),
-}
-
-// The last distance: none before the first hit.
-#[derive(Clone, Copy)]
-pub enum LastDistance {
-    Never,
-    Distance(f64),
-}
-
-// What a record's history keeps of a past detection beside its floats: its age, -1 where it has none, and whether it has scores.
-#[derive(Clone, Copy)]
+// What a record's history keeps of a past detection beside its floats: its age, if it has one, and whether it has scores.
+#[derive(Clone, Copy, PartialEq, Eq)]
 pub struct PastDetection {
-    pub age: i32,
+    pub age: Option<i32>,
     pub has_scores: bool,
 }
 
 // Who a record is: given at opening, and never changed.
-#[derive(Clone, Copy)]
+#[derive(Clone, Copy, PartialEq, Eq)]
 pub struct Origin {
     pub global_id: u32,
     pub initializing_id: u32,
     pub initial_period: u32,
 }
 
-// How a record fares: its counters, whether it is initializing, and its permanent ID.
-#[derive(Clone, Copy)]
+// How a record fares: its counters (the ReID counter may be absent), whether it is initializing, and its permanent ID, once it has one.
+#[derive(Clone, Copy, PartialEq, Eq)]
 pub struct Life {
     pub age: u32,
     pub hit_counter: i32,
-    pub reid_hit_counter: ReidCounter,
+    pub reid_hit_counter: Option<i32>,
     pub is_initializing: bool,
-    pub id: PermanentId,
+    pub id: Option<u32>,
 }
 
-// The last detection, beside its floats.
+// The last detection, beside its floats: the last distance is absent before the first hit.
 #[derive(Clone, Copy)]
 pub struct Last {
-    pub distance: LastDistance,
+    pub distance: Option<f64>,
     pub has_scores: bool,
 }
 
-// A record of the table. Its floats are a block of the lent storage.
+// A record of the table. Memory is fixed, so its lists are arrays, and a count of the past; its floats are a block of the lent storage.
 #[derive(Clone, Copy)]
 pub struct TrackedObject {
     pub past: [PastDetection; 8],

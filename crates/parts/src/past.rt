@@ -1,21 +1,18 @@
 // Rules 45 and 62: the history of a record, its marks in the record and its floats in the block.
-ghost use Rattle.std.specs.Prelude.{◌≡◌, [], ◌∷◌, ◌++◌, ◌≤◌, ◌<◌, ◌+◌, ◌-◌, ◌*◌, min, length, take, drop, pos};
+ghost use Rattle.std.specs.Prelude.{◌≡◌, [], ◌∷◌, ◌++◌, ◌≤◌, ◌<◌, ◌+◌, ◌-◌, ◌*◌, length, drop};
 ghost use Rattle.std.proofs.Math.Seq.{paste};
-ghost use Rattle.std.specs.Int.Signed.{mag};
+ghost use Rattle.parts.specs.Ranges.{AgeInRange};
 ghost use Rattle.parts.specs.Past.{room_made, place_of, pushed, is_due};
 
 use crate::PastDetection;
+use filter::detection::LentDetection;
 
-// n floats of src into s, from place at on.
-pub fn write_at(s: &mut [f64], at: usize, src: &[f64], n: usize)
-    requires { (at + n ≤ length s.old) × (n ≤ length src.now) }
-    ensures { s.new ≡ paste s.old at src.now n }
+// Floats into s, from a place on.
+pub fn write_at(s: &mut [f64], at: usize, from: &[f64])
+    requires { at + length from.now ≤ length s.old }
+    ensures { s.new ≡ paste s.old at from.now (length from.now) }
 {
-    let mut i = 0;
-    while i < n {
-        s[at + i] = src[i];
-        i += 1;
-    }
+    s[at..at + from.len()].copy_from_slice(from);
 }
 
 // n floats of s moved down, from place `from` to place at.
@@ -23,20 +20,16 @@ pub fn move_down(s: &mut [f64], at: usize, from: usize, n: usize)
     requires { (at ≤ from) × (from + n ≤ length s.old) }
     ensures { s.new ≡ paste s.old at (drop from s.old) n }
 {
-    let mut i = 0;
-    while i < n {
-        s[at + i] = s[from + i];
-        i += 1;
-    }
+    s.copy_within(from..from + n, at);
 }
 
 // A detection's coordinates and scores, one behind the other.
-pub fn write_detection(s: &mut [f64], at: usize, points: &[f64], n: usize, scores: &[f64], p: usize)
-    requires { (at + (n + p) ≤ length s.old) × (n ≡ length points.now) × (p ≡ length scores.now) }
-    ensures { s.new ≡ paste s.old at (points.now ++ scores.now) (n + p) }
+pub fn write_detection(s: &mut [f64], at: usize, d: LentDetection<'_>)
+    requires { at + (length d.points.now + length d.scores.now) ≤ length s.old }
+    ensures { s.new ≡ paste s.old at (d.entry.points.now ++ d.entry.scores.now) (length d.entry.points.now + length d.entry.scores.now) }
 {
-    write_at(s, at, points, n);
-    write_at(s, at + n, scores, p);
+    write_at(s, at, d.points);
+    write_at(s, at + d.points.len(), d.scores);
 }
 
 // The place of the next entry of width floats, in a history of at most `most` entries that starts at `at`.
@@ -44,10 +37,7 @@ pub fn place_of(at: usize, width: usize, most: usize, count: usize) -> usize
     requires { (at + most * width < 65536) × (0 < most) × (count ≤ most) }
     ensures { result ≡ place_of most width at count }
 {
-    if count < most {
-        return at + count * width;
-    }
-    at + (most - 1) * width
+    at + count.min(most - 1) * width
 }
 
 // Room for one entry more: where the history is full, the oldest leaves.
@@ -60,22 +50,10 @@ pub fn make_room(s: &mut [f64], at: usize, width: usize, most: usize, count: usi
     }
 }
 
-// The marks of a full history without the oldest.
-fn shifted(mut past: [PastDetection; 8], most: usize) -> [PastDetection; 8]
-    requires { (0 < most) × (most ≤ 8) }
-    ensures { result ≡ paste past 0 (drop 1 past) (most - 1) }
-{
-    let mut i = 1;
-    while i < most {
-        past[i - 1] = past[i];
-        i += 1;
-    }
-    past
-}
-
 // The marks with one entry more, the oldest leaving beyond the length.
+#[tactic(auto, using(crate::proofs::PastLaws::one_pushed))]
 pub fn push_mark(
-    past: [PastDetection; 8],
+    mut past: [PastDetection; 8],
     most: usize,
     count: usize,
     entry: PastDetection,
@@ -83,34 +61,20 @@ pub fn push_mark(
     requires { (0 < most) × (most ≤ 8) × (count ≤ most) }
     ensures { result ≡ pushed most 1 0 count (entry ∷ []) past }
 {
-    if count < most {
-        let mut next = past;
-        next[count] = entry;
-        return next;
+    if most <= count {
+        past.copy_within(1..most, 0);
     }
-    let mut next = shifted(past, most);
-    next[most - 1] = entry;
-    next
-}
-
-// How many entries there are after one more.
-pub fn next_count(most: usize, count: usize) -> usize
-    requires { count ≤ most }
-    ensures { result ≡ min (count + 1) most }
-{
-    if count < most {
-        return count + 1;
-    }
-    most
+    past[count.min(most - 1)] = entry;
+    past
 }
 
 // Whether a full history takes an entry at this age: the oldest has an age, and the record's is at least that times the length.
-pub fn is_due(oldest: i32, age: u32, most: usize) -> bool
-    requires { (mag oldest ≤ 200000000) × (most ≤ 8) }
+pub fn is_due(oldest: Option<i32>, age: u32, most: usize) -> bool
+    requires { AgeInRange oldest × (most ≤ 8) }
     ensures { result ≡ is_due oldest age most }
 {
-    if oldest < 0 {
-        return false;
+    match oldest {
+        Some(oldest) if 0 <= oldest => (oldest as u64) * (most as u64) <= age as u64,
+        _ => false,
     }
-    (oldest as u64) * (most as u64) <= age as u64
 }

@@ -1,49 +1,19 @@
 // Rules 32, 45 and 46: the point counters and the seen flags of a record.
-ghost use Rattle.std.specs.Prelude.{◌≡◌, ◌≤◌, ◌<◌, ◌+◌, ◌-◌, min, length};
-ghost use Rattle.std.specs.Int.Bits.{bit_or};
+ghost use Rattle.std.specs.Prelude.{◌≡◌, ◌≤◌, ◌<◌, length};
 ghost use Rattle.parts.specs.Points.{above, with_flag, has_flag, points_fallen, points_hit, flags_set};
 ghost use Rattle.parts.specs.Ranges.{PointsInRange};
+
+use filter::detection::LentDetection;
 
 // Whether a point counts as seen: by its score, or without scores as the caller says.
 fn is_above(has_scores: bool, threshold: f64, without: bool, score: f64) -> bool
     ensures { result ≡ above has_scores threshold without score }
 {
     if has_scores {
-        return score > threshold;
+        score > threshold
+    } else {
+        without
     }
-    without
-}
-
-// One less, not below 0.
-fn lowered(c: u32) -> u32
-    ensures { result ≡ c - 1 }
-{
-    if c == 0 {
-        return 0;
-    }
-    c - 1
-}
-
-// The smaller of the counter plus the period and the maximum.
-fn capped(c: u32, period: u32, maximum: u32) -> u32
-    requires { (c ≤ 10000) × (period ≤ 1000) }
-    ensures { result ≡ min (c + period) maximum }
-{
-    let up = c + period;
-    if up < maximum {
-        return up;
-    }
-    maximum
-}
-
-// A new record's point counter: the smaller of the period and the maximum.
-pub fn opened_counter(period: u32, maximum: u32) -> u32
-    ensures { result ≡ min period maximum }
-{
-    if period < maximum {
-        return period;
-    }
-    maximum
 }
 
 // Point i's flag set: bit i by shift and or.
@@ -63,60 +33,54 @@ pub fn seen(flags: u16, i: usize) -> bool
 }
 
 // The counters of the first n points, each one less but not below 0.
+#[tactic(auto, using(laws::proofs::Turns::turns_next), unfolding(crate::specs::Points::points_fallen, laws::specs::Turns::turns))]
 pub fn fall_points(mut counters: [u32; 16], n: usize) -> [u32; 16]
     requires { n ≤ 16 }
     ensures { result ≡ points_fallen n counters }
 {
-    let mut i = 0;
-    while i < n {
-        counters[i] = lowered(counters[i]);
-        i += 1;
+    for counter in &mut counters[..n] {
+        *counter = counter.saturating_sub(1);
     }
     counters
 }
 
 // The counters of the points that a hit saw.
+#[tactic(auto, using(laws::proofs::Turns::turns_next, crate::proofs::PointLaws::hit_in_range), unfolding(crate::specs::Points::points_hit, laws::specs::Turns::turns))]
 pub fn hit_points(
     mut counters: [u32; 16],
     n: usize,
-    has_scores: bool,
     threshold: f64,
-    scores: &[f64],
+    d: LentDetection<'_>,
     period: u32,
     maximum: u32,
 ) -> [u32; 16]
-    requires { (n ≤ 16) × (n ≤ length scores.now) × (period ≤ 1000) × (maximum ≤ 10000) × PointsInRange n counters }
-    ensures { result ≡ points_hit n has_scores threshold scores.now period maximum counters }
+    requires { (n ≤ 16) × (n ≤ length d.scores.now) × (period ≤ 1000) × (maximum ≤ 10000) × PointsInRange n counters }
+    ensures { result ≡ points_hit n d.entry.has_scores threshold d.entry.scores.now period maximum counters }
 {
-    let without = 1.0 > threshold;
-    let mut i = 0;
-    while i < n {
-        if is_above(has_scores, threshold, without, scores[i]) {
-            counters[i] = capped(counters[i], period, maximum);
+    for i in 0..n {
+        if is_above(d.has_scores, threshold, 1.0 > threshold, d.scores[i]) {
+            counters[i] = (counters[i] + period).min(maximum);
         }
-        i += 1;
     }
     counters
 }
 
 // The flags of the first n points that are above the threshold, set; without scores all or none, as the caller says.
+#[tactic(auto, using(laws::proofs::Turns::turns_next), unfolding(crate::specs::Points::flags_set, laws::specs::Turns::turns))]
 pub fn set_flags(
     mut flags: u16,
     n: usize,
-    has_scores: bool,
     threshold: f64,
     without: bool,
-    scores: &[f64],
+    d: LentDetection<'_>,
 ) -> u16
-    requires { (n ≤ 16) × (n ≤ length scores.now) }
-    ensures { result ≡ flags_set n has_scores threshold without scores.now flags }
+    requires { (n ≤ 16) × (n ≤ length d.scores.now) }
+    ensures { result ≡ flags_set n d.entry.has_scores threshold without d.entry.scores.now flags }
 {
-    let mut i = 0;
-    while i < n {
-        if is_above(has_scores, threshold, without, scores[i]) {
+    for (i, score) in d.scores[..n].iter().enumerate() {
+        if is_above(d.has_scores, threshold, without, *score) {
             flags = set_flag(flags, i);
         }
-        i += 1;
     }
     flags
 }

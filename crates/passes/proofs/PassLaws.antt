@@ -12,19 +12,15 @@ use lib.Seq.{get_or-set_other, take-suc, take_all}
 use Rattle.laws.specs.Lists.{below, keep, any, holds, times, EachBelow}
 use Rattle.laws.specs.Turns.{through}
 use Rattle.laws.proofs.Every.{each_padded}
-use Rattle.laws.proofs.Growing.{length-filled, take-filled}
+use Rattle.laws.proofs.Growing.{take-filled}
 use Rattle.matching.specs.declared.Numbers.{Numbers}
-use Rattle.matching.specs.declared.Picks.{Picks}
 use Rattle.matching.specs.Greedy.{Matrix, Pick, free, marked, cleared, rows_of, cols_of}
 use Rattle.matching.specs.Lent.{picks_of}
 use Rattle.matching.specs.Unmatched.{unmatched, numbers_of}
 use Rattle.matching.proofs.Laws.{rows_taken, cols_taken}
-use Rattle.matching.proofs.Picked.{picked_cols}
 use Rattle.matching.proofs.Taken.{Taken, taken_append, taken_at_most, taken_below, taken_times, taken_once, used_not_taken}
-use Rattle.table.specs.declared.Candidates.{Candidates}
-use Rattle.table.specs.Making.{candidates_of}
 use Rattle.table.proofs.Facts.{ListFacts}
-use Rattle.passes.specs.Passes.{numbers, cols_picked, first_pass, second_pass, among, left_over, alive_left, old_ones, NamesOnce}
+use Rattle.passes.specs.Passes.{numbers, first_pass, second_pass, among, left_over, alive_left, old_ones, NamesOnce}
 use Rattle.laws.proofs.Counting.{times-append, times-keep, kept_at_most, times_below, below_once, not_held, no_times, held, few_below}
 
 -- ---- a struct of numbers lists what it was made of
@@ -32,24 +28,9 @@ use Rattle.laws.proofs.Counting.{times-append, times-keep, kept_at_most, times_b
 pub numbers-numbers_of : (l : List ℕ) → numbers (numbers_of l) ≡ l
 numbers-numbers_of l = take-filled 64 0 l
 
--- what a call says of the numbers that it returns
-module _ (l : List ℕ) {r : Numbers} (e : r ≡ numbers_of l) where
-  pub count_is : r.count ≡ length l
-  count_is = ap (λ (n : Numbers). n.count) e
-
-  pub listed_is : numbers r ≡ l
-  listed_is = ap numbers e ∙ numbers-numbers_of l
-
-  pub listed_again : r ≡ numbers_of (numbers r)
-  listed_again = e ∙ sym (ap numbers_of listed_is)
-
-  pub count_inside : length l ≤ 64 → r.count ≤ length r.at
-  count_inside h = rw e (omega (arith, length-filled 64 0 l h))
-
--- ---- the candidates: the columns of picks, as the struct of picks lists them
-
-pub columns_listed : (l : List Pick) {p : Picks} → p ≡ picks_of l → ◌≡◌ {A = Candidates} (record { at = p.cols; count = p.count }) (candidates_of (cols_picked p))
-columns_listed l e = rw (e, picked_cols l, length-map l (λ q. q.col))
+-- a struct that was made of some numbers is made of those that it lists
+listed_again : (l : List ℕ) {r : Numbers 64} → r ≡ numbers_of l → r ≡ numbers_of (numbers r)
+listed_again l e = rw (e, numbers-numbers_of l)
 
 -- ---- a pass from these flags on: each row and column was free when it was picked
 
@@ -193,6 +174,17 @@ module _ (records : ℕ) (alive dead hit : List ℕ) (named : NamesOnce records 
 
   pub old_few : length (old_ones records alive dead hit) ≤ records
   old_few = few_below records (old_ones records alive dead hit) old_most
+
+  -- as the code finds them: together they are few enough for an array, and the first of them are all that their struct lists
+  pub old_fit : {free left unnamed : Numbers 64} → records ≤ 64 → free ≡ numbers_of (unmatched records hit)
+      → left ≡ numbers_of (keep (among true alive) (numbers free)) → unnamed ≡ numbers_of (keep (among false (numbers left)) dead)
+      → (left.count + length (numbers unnamed) ≤ 64) × (left ≡ numbers_of (numbers left))
+  old_fit few e f g =
+      let l = alive_left records alive hit in (
+        rw (g, f, e, numbers-numbers_of (unmatched records hit), numbers-numbers_of l, numbers-numbers_of (keep (among false l) dead))
+            (omega (arith, old_few, length-append l (keep (among false l) dead))),
+        listed_again _ f,
+      )
 
 -- ---- a list of a whole table names each place once
 

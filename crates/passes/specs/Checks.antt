@@ -9,7 +9,9 @@ use Rattle.table.specs.declared.Table.{Table}
 use Rattle.table.specs.declared.Phase.TheVariants.{Match}
 use Rattle.table.specs.Ranges.{between}
 use Rattle.table.specs.Refusals.{Check, check, step_checks}
-use Rattle.passes.specs.declared.Lengths.{Lengths}
+use Rattle.table.specs.declared.refusals.Refusal.TheVariants.{Period, TooManyDetections, Lengths, OutputShort, NotFinite, TableFull, IdsUsedUp}
+use Rattle.passes.specs.declared.frame.LentFrame.{LentFrame}
+use Rattle.passes.specs.declared.frame.LentLengths.{LentLengths}
 
 -- the period; for each detection its coordinates, its scores and a has-scores byte; the matrix, row by row
 pub record Frame : Type 0 where
@@ -23,8 +25,11 @@ abbrev pub frame : ℕ → List Float → List Float → List ℕ → List Float
 frame period points scores has_scores distances =
     record { period = period; points = points; scores = scores; has_scores = has_scores; distances = distances }
 
+abbrev pub lent_frame : LentFrame → Frame
+lent_frame f = frame f.period f.points.now f.scores.now f.has_scores.now f.distances.now
+
 -- the pair list is an output: only its places matter
-abbrev pub lengths_of : Frame → ℕ → Lengths
+abbrev pub lengths_of : Frame → ℕ → LentLengths
 lengths_of f places =
     record {
       points = length f.points;
@@ -35,27 +40,27 @@ lengths_of f places =
     }
 
 -- a lent input's length is exactly what the counts ask
-abbrev pub lengths_fit : TrackerConfig → ℕ → ℕ → Lengths → Bool
+abbrev pub lengths_fit : TrackerConfig → ℕ → ℕ → LentLengths → Bool
 lengths_fit c records detections l =
     eqb l.points (detections * coords c)
     && (eqb l.scores (detections * c.points) && (eqb l.has_scores detections && eqb l.distances (detections * records)))
 
 -- 5, 4, 6, 8, 9, 10, 11: told before the picks
-abbrev pub given_checks : Table → ℕ → ℕ → ℕ → Lengths → List Check
+abbrev pub given_checks : Table → ℕ → ℕ → ℕ → LentLengths → List Check
 given_checks t floats period detections l =
     step_checks Match t floats
-    ++ (check 8 (not (between 1 period 1000))
-    ∷ check 9 (ltb 32 detections)
-    ∷ check 10 (not (lengths_fit t.config t.counts.records detections l))
-    ∷ check 11 (ltb l.pairs 32)
+    ++ (check Period (not (between 1 period 1000))
+    ∷ check TooManyDetections (ltb 32 detections)
+    ∷ check Lengths (not (lengths_fit t.config t.counts.records detections l))
+    ∷ check OutputShort (ltb l.pairs 32)
     ∷ [])
 
 -- 12, 13, 14: with how many records are to open
 abbrev pub decided_checks : TrackerConfig → Counts → List Float → ℕ → List Check
 decided_checks c n points more =
-    check 12 (any (λ x. not (finite x)) points)
-    ∷ check 13 (ltb c.capacity (n.records + more))
-    ∷ check 14 (ltb 2000000000 (n.opened + more))
+    check NotFinite (any (λ x. not (finite x)) points)
+    ∷ check TableFull (ltb c.capacity (n.records + more))
+    ∷ check IdsUsedUp (ltb 2000000000 (n.opened + more))
     ∷ []
 
 -- step 2: the order of its refusals

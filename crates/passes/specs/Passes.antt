@@ -1,13 +1,14 @@
 -- Rules 43, 44 and 48: both passes, who is left over, the old ones and the candidates.
-use Rattle.std.specs.Prelude.{Bool, true, false, not, cond, List, ◌++◌, ℕ, ◌≤◌, take, replicate}
-use Rattle.laws.specs.Lists.{below, keep, holds, times}
+use Rattle.std.specs.Prelude.{Bool, true, false, not, cond, List, ◌++◌, ℕ, ◌≤◌, set, length, take, replicate}
+use Rattle.laws.specs.Lists.{below, keep, holds, times, EachBelow}
+use Rattle.laws.specs.Turns.{through}
 use Rattle.matching.specs.declared.Numbers.{Numbers}
 use Rattle.matching.specs.declared.Picks.{Picks}
 use Rattle.matching.specs.Greedy.{Matrix, Pick, marked, cleared, picks}
 use Rattle.matching.specs.Unmatched.{unmatched}
 
 -- what a struct of numbers, or of picks, lists
-abbrev pub numbers : Numbers → List ℕ
+abbrev pub numbers : Numbers 64 → List ℕ
 numbers l = take l.count l.at
 
 abbrev pub rows_picked : Picks → List ℕ
@@ -15,6 +16,10 @@ rows_picked l = take l.count l.rows
 
 abbrev pub cols_picked : Picks → List ℕ
 cols_picked l = take l.count l.cols
+
+-- n flags: those at the places as said, the others not
+abbrev pub flagged : ℕ → Bool → List ℕ → List Bool
+flagged n flag places = through (λ i u. set u i flag) places (replicate n (not flag))
 
 -- ---- the passes: all columns but those listed are marked used
 
@@ -45,6 +50,9 @@ alive_left records alive hit = keep (among true alive) (unmatched records hit)
 -- then each dead one, in the order in which it is listed, that is not already named
 abbrev pub old_ones : ℕ → List ℕ → List ℕ → List ℕ → List ℕ
 old_ones records alive dead hit = alive_left records alive hit ++ keep (among false (alive_left records alive hit)) dead
+
+abbrev pub AllBelow : ℕ → List ℕ → Type 0
+AllBelow n l = EachBelow n (length l) l
 
 -- a list of places in the table, none twice
 abbrev pub NamesOnce : ℕ → List ℕ → Type 0

@@ -1,96 +1,87 @@
 // Rules 10 and 11: the refusals of step 2 in their order.
-ghost use Rattle.std.specs.Prelude.{◌≡◌, true, not, ◌≤◌};
+ghost use Rattle.std.specs.Prelude.{◌≡◌, not, ◌≤◌};
 ghost use Rattle.laws.specs.Lists.{any};
 ghost use Rattle.laws.specs.Float64.{finite};
-ghost use Rattle.parts.specs.Ranges.{Sizes};
-ghost use Rattle.table.specs.Refusals.{first_due};
+ghost use Rattle.table.specs.Refusals.{first_due, checked};
 ghost use Rattle.passes.specs.Checks.{lengths_fit, given_checks, decided_checks};
 
-use crate::Lengths;
+use crate::frame::LentLengths;
+use parts::settings::Settings;
 use parts::{TrackerConfig, block};
-use table::{Counts, Phase, Table, making, ranges, refusals};
+use table::refusals::Refusal;
+use table::{Counts, Phase, Table, making};
 
 // Whether every coordinate is finite.
 fn are_finite(points: &[f64]) -> bool
     ensures { result ≡ not (any (λ x. not (finite x)) points.now) }
 {
-    let n = points.len();
-    let mut i = 0;
-    while i < n {
-        if !laws::is_finite(points[i]) {
-            return false;
-        }
-        i += 1;
-    }
-    true
+    points.iter().all(|x| x.is_finite())
 }
 
 // Each input has exactly the length that the counts ask.
 fn do_lengths_fit(
-    config: TrackerConfig,
+    settings: Settings,
     records: usize,
     detections: usize,
-    lengths: Lengths,
+    lengths: LentLengths,
 ) -> bool
-    requires { Sizes config × (records ≤ 64) × (detections ≤ 32) }
-    ensures { result ≡ lengths_fit config records detections lengths }
+    requires { (records ≤ 64) × (detections ≤ 32) }
+    ensures { result ≡ lengths_fit settings.config records detections lengths }
 {
-    let at = block::layout_of(config);
-    let points = lengths.points == detections * at.coords;
-    let scores = lengths.scores == detections * config.points;
-    let marks = lengths.has_scores == detections;
-    let distances = lengths.distances == detections * records;
-    laws::both(points, laws::both(scores, laws::both(marks, distances)))
+    let coords = block::layout_of(settings).coords;
+    lengths.points == detections * coords
+        && lengths.scores == detections * settings.config.points
+        && lengths.has_scores == detections
+        && lengths.distances == detections * records
 }
 
 // The first refusal that can be told before the picks.
-#[tactic(auto, unfolding(table::specs::Refusals::first_due))]
+#[tactic(auto, using(table::proofs::Due::after_step), unfolding(table::specs::Refusals::first_due))]
 pub fn given_refusal(
-    t: Table,
+    t: &Table,
     floats: usize,
     period: u32,
     detections: usize,
-    lengths: Lengths,
-) -> u32
-    ensures { result ≡ first_due (given_checks t floats period detections lengths) }
+    lengths: LentLengths,
+) -> Result<(), Refusal>
+    ensures { result ≡ checked (first_due (given_checks t.now floats period detections lengths)) }
 {
-    let config = t.config;
-    let counts = t.counts;
-    let first = making::step_refusal(t, floats, Phase::Match);
-    if first != 0 {
-        return first;
-    }
-    if !ranges::is_between(1, period as usize, 1000) {
-        return refusals::PERIOD;
+    making::step_refusal(t, floats, Phase::Match)?;
+    if !(1..=1000).contains(&period) {
+        return Err(Refusal::Period);
     }
     if 32 < detections {
-        return refusals::TOO_MANY_DETECTIONS;
+        return Err(Refusal::TooManyDetections);
     }
-    if !do_lengths_fit(config, counts.records, detections, lengths) {
-        return refusals::LENGTHS;
+    let settings = Settings { config: t.config };
+    if !do_lengths_fit(settings, t.counts.records, detections, lengths) {
+        return Err(Refusal::Lengths);
     }
     if lengths.pairs < 32 {
-        return refusals::OUTPUT_SHORT;
+        return Err(Refusal::OutputShort);
     }
-    0
+    Ok(())
 }
 
 // The first refusal once the picks are known: of the coordinates, and of the records to open.
 #[tactic(auto, unfolding(table::specs::Refusals::first_due))]
-pub fn decided_refusal(config: TrackerConfig, counts: Counts, points: &[f64], more: usize) -> u32
+pub fn decided_refusal(
+    config: TrackerConfig,
+    counts: Counts,
+    points: &[f64],
+    more: usize,
+) -> Result<(), Refusal>
     requires { (counts.records ≤ 64) × (counts.opened ≤ 2000000000) × (more ≤ 64) }
-    ensures { result ≡ first_due (decided_checks config counts points.now more) }
+    ensures { result ≡ checked (first_due (decided_checks config counts points.now more)) }
 {
-    let not_finite = !are_finite(points);
-    let full = config.capacity < counts.records + more;
-    if not_finite {
-        return refusals::NOT_FINITE;
+    if !are_finite(points) {
+        return Err(Refusal::NotFinite);
     }
-    if full {
-        return refusals::TABLE_FULL;
+    if config.capacity < counts.records + more {
+        return Err(Refusal::TableFull);
     }
     if 2000000000 < counts.opened + more as u32 {
-        return refusals::IDS_USED_UP;
+        return Err(Refusal::IdsUsedUp);
     }
-    0
+    Ok(())
 }

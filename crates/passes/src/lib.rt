@@ -2,86 +2,47 @@
 #![tactic(auto)]
 
 pub mod checks;
+pub mod frame;
 pub mod lists;
 
-ghost use Rattle.std.specs.Prelude.{◌≡◌, true, false, ◌≤◌, ◌*◌, length, take, replicate};
+ghost use Rattle.std.specs.Prelude.{◌≡◌, ◌≤◌};
 ghost use Rattle.laws.specs.Lists.{EachBelow};
-ghost use Rattle.matching.specs.Greedy.{marked, cleared, picks};
-ghost use Rattle.matching.specs.Lent.{lent, picks_of};
-ghost use Rattle.passes.specs.Passes.{numbers, first_pass, second_pass, rows_picked};
+ghost use Rattle.matching.specs.Lent.{lent_matrix, picks_of};
+ghost use Rattle.passes.specs.Passes.{numbers, first_pass, second_pass, rows_picked, flagged, AllBelow};
 
+use matching::matrix::LentMatrix;
 use matching::{Numbers, Picks};
 
-// The lengths of what the host lends: points, scores, has-scores bytes, distances, pair places.
-#[derive(Clone, Copy)]
-pub struct Lengths {
-    pub points: usize,
-    pub scores: usize,
-    pub has_scores: usize,
-    pub distances: usize,
-    pub pairs: usize,
-}
-
-// Columns that take no part are marked used: all but those of the list.
-fn columns_of(list: Numbers) -> [bool; 64]
-    requires { (list.count ≤ 64) × EachBelow 64 list.count list.at }
-    ensures { result ≡ cleared (numbers list) (replicate 64 true) }
+// N flags: those at the places are as said, the others not.
+#[tactic(auto, using(laws::proofs::Through::through_next), unfolding(laws::specs::Turns::through))]
+fn flags_at<const N: usize>(places: &[usize], flag: bool) -> [bool; N]
+    requires { AllBelow N places.now }
+    ensures { result ≡ flagged N flag places.now }
 {
-    let at = list.at;
-    let n = list.count;
-    let mut used = [true; 64];
-    let mut i = 0;
-    while i < n {
-        used[at[i]] = false;
-        i += 1;
+    let mut flags = [!flag; N];
+    for place in places {
+        flags[*place] = flag;
     }
-    used
+    flags
 }
 
-// The rows that a pass took.
-fn rows_of(picks: Picks) -> [bool; 32]
-    requires { (picks.count ≤ 32) × EachBelow 32 picks.count picks.rows }
-    ensures { result ≡ marked (rows_picked picks) (replicate 32 false) }
+// Pass 1: all rows, the alive columns. Columns that take no part are marked used.
+#[tactic(auto, unfolding(crate::specs::Passes::first_pass))]
+pub fn first_pass(m: LentMatrix<'_>, alive: &Numbers<64>) -> Picks
+    requires { (alive.now.count ≤ 64) × EachBelow 64 alive.now.count alive.now.at }
+    ensures { result ≡ picks_of (first_pass (lent_matrix m.entry) (numbers alive.now)) }
 {
-    let rows = picks.rows;
-    let n = picks.count;
-    let mut used = [false; 32];
-    let mut i = 0;
-    while i < n {
-        used[rows[i]] = true;
-        i += 1;
-    }
-    used
-}
-
-// Pass 1: all rows, the alive columns.
-pub fn first_pass(
-    distances: &[f64],
-    rows: usize,
-    cols: usize,
-    threshold: f64,
-    alive: Numbers,
-) -> Picks
-    requires { (rows ≤ 32) × (cols ≤ 64) × (rows * cols ≤ length distances.now) × (alive.count ≤ 64) × EachBelow 64 alive.count alive.at }
-    ensures { result ≡ picks_of (first_pass (lent distances.now rows cols threshold) (numbers alive)) }
-{
-    let used_cols = columns_of(alive);
-    matching::match_detections_and_objects(distances, rows, cols, threshold, [false; 32], used_cols)
+    let used_cols = flags_at(&alive.at[..alive.count], false);
+    matching::match_detections_and_objects(m, [false; 32], used_cols)
 }
 
 // Pass 2: the rows that pass 1 left, the initializing columns.
-pub fn second_pass(
-    distances: &[f64],
-    rows: usize,
-    cols: usize,
-    threshold: f64,
-    initializing: Numbers,
-    first: Picks,
-) -> Picks
-    requires { (rows ≤ 32) × (cols ≤ 64) × (rows * cols ≤ length distances.now) × (initializing.count ≤ 64) × EachBelow 64 initializing.count initializing.at × (first.count ≤ 32) × EachBelow 32 first.count first.rows }
-    ensures { result ≡ picks_of (second_pass (lent distances.now rows cols threshold) (numbers initializing) (rows_picked first)) }
+#[tactic(auto, unfolding(crate::specs::Passes::second_pass))]
+pub fn second_pass(m: LentMatrix<'_>, initializing: &Numbers<64>, first: &Picks) -> Picks
+    requires { (initializing.now.count ≤ 64) × EachBelow 64 initializing.now.count initializing.now.at × (first.now.count ≤ 32) × EachBelow 32 first.now.count first.now.rows }
+    ensures { result ≡ picks_of (second_pass (lent_matrix m.entry) (numbers initializing.now) (rows_picked first.now)) }
 {
-    let used_rows = rows_of(first);
-    let used_cols = columns_of(initializing);
-    matching::match_detections_and_objects(distances, rows, cols, threshold, used_rows, used_cols)
+    let used_rows = flags_at(&first.rows[..first.count], true);
+    let used_cols = flags_at(&initializing.at[..initializing.count], false);
+    matching::match_detections_and_objects(m, used_rows, used_cols)
 }

@@ -5,7 +5,8 @@ use Prim.Native.Nat.{ℕ, ◌*◌, ◌≤◌}
 use native.Mathlib.Nat.{mul-le-mul_right, le_trans}
 use native.Mathlib.Omega.{arith}
 use lib.Ieee.{Float}
-use lib.ListN.{length, get_or}
+use lib.ListN.{length, get_or, take}
+use lib.Seq.{length-take-le, get_or-take}
 use Rattle.laws.proofs.Every.{every_at, every_keep}
 use Rattle.laws.proofs.Growing.{keep_alike}
 use Rattle.parts.specs.declared.TrackerConfig.{TrackerConfig}
@@ -15,7 +16,7 @@ use Rattle.table.specs.Making.{zero_object}
 use Rattle.table.specs.Slots.{Slot, slots, objects_of, records_back, floats_back, AllInRange}
 use Rattle.table.proofs.Ranged.{ranged_slots}
 use Rattle.table.proofs.SlotLaws.{slots_back, records_front, records_at, records_again, floats_again}
-use Rattle.predict.specs.declared.Kept.{Kept}
+use Rattle.table.specs.declared.Kept.{Kept}
 use Rattle.predict.specs.declared.Sort.{Sort}
 use Rattle.predict.specs.Step.{belongs, kept_of, kept_records, kept_floats, places_of, each_predicted}
 use Rattle.predict.proofs.Dropping.{stays, kept_most, kept_sized, kept_length}
@@ -39,12 +40,16 @@ module _ (c : TrackerConfig) (n : ℕ) (records : List TrackedObject) (s : List 
       let ranged = every_keep (stays c) (ranged_slots c (block_size c) records s n all) in
       rw kept (λ i h. rw (records_at l records i zero_object d h) (every_at i d ranged h))
 
-  pub sorted : (sort : Sort) → places_of c sort k.count k.records ≡ places_of c sort (length (kept_of c n records s)) (objects_of (kept_of c n records s))
-  sorted sort =
+  -- as the sort reads them: the front of the array
+  pub sorted : (sort : Sort) → k.count ≤ length k.records
+      → places_of c sort (length (take k.count k.records)) (take k.count k.records) ≡ places_of c sort (length (kept_of c n records s)) (objects_of (kept_of c n records s))
+  sorted sort h =
       let l = kept_of c n records s in
+      let front = keep_alike (λ i. belongs c sort (get_or (take k.count k.records) i zero_object)) (λ i. belongs c sort (get_or k.records i zero_object)) k.count
+      (λ i h. rw get_or-take) in
       let same = keep_alike (λ i. belongs c sort (get_or (records_back l records) i zero_object)) (λ i. belongs c sort (get_or (objects_of l) i zero_object)) (length l)
       (λ i h. rw (records_front l records i zero_object h)) in
-      rw (kept, same)
+      rw (length-take-le k.count k.records h, front) (rw (kept, same))
 
   found : slots (block_size c) k.records f k.count ≡ kept_of c n records s
   found = rw (kept, floats) (slots_back (kept_sized c records s n whole) records s)

@@ -72,13 +72,13 @@ module _ (t : Table) (s : List Float) (room : t.counts.records * block_size t.co
 
 -- ---- the lists
 
-abbrev pub list_of : Sort → Lists → Numbers
+abbrev pub list_of : Sort → Lists → Numbers 64
 list_of Alive l = l.alive
 list_of Initializing l = l.initializing
 list_of Dead l = l.dead
 
 -- the numbers of a list, without what pads it
-abbrev pub numbers_in : Numbers → List ℕ
+abbrev pub numbers_in : Numbers 64 → List ℕ
 numbers_in m = take m.count m.at
 
 first : (a b : Bool) → (a && b) ≡ true → a ≡ true

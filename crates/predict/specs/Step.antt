@@ -1,35 +1,33 @@
 -- Rules 30 to 33: step 1 on a table with its floats, and its account: who was dropped.
-use Rattle.std.specs.Prelude.{Bool, true, false, not, ◌&&◌, List, map, ℕ, ◌+◌, ◌*◌, ◌≤◌, pos, length, get_or, Float}
+use Rattle.std.specs.Prelude.{Bool, true, false, not, ◌&&◌, List, map, ℕ, ◌+◌, ◌*◌, ◌≤◌, pos, length, get_or, Float, Option, Some, None, ℤ}
 use Rattle.std.specs.Int.Signed.{le_z, lt_z}
 use Rattle.laws.specs.Lists.{below, keep}
 use Rattle.matching.specs.declared.Numbers.{Numbers}
 use Rattle.matching.specs.Unmatched.{numbers_of}
 use Rattle.parts.specs.declared.TrackerConfig.{TrackerConfig}
 use Rattle.parts.specs.declared.TrackedObject.{TrackedObject}
-use Rattle.parts.specs.declared.ReidCounter.{ReidCounter}
-use Rattle.parts.specs.declared.ReidCounter.TheVariants.{Absent, Present}
 use Rattle.parts.specs.Layout.{block_size}
 use Rattle.parts.specs.Ranges.{Sizes}
 use Rattle.tracked_object.specs.Object.{object_predicted, block_predicted}
+use Rattle.table.specs.declared.Kept.{Kept}
 use Rattle.table.specs.declared.Table.{Table}
 use Rattle.table.specs.declared.Phase.TheVariants.{Match}
 use Rattle.table.specs.Making.{zero_object, no_numbers, no_candidates}
-use Rattle.table.specs.Slots.{Slot, slots, objects_of, records_back, floats_back, table_slots, AllInRange, names}
+use Rattle.table.specs.Slots.{Slot, slots, objects_of, records_back, kept_back, floats_back, table_slots, AllInRange, names}
 use Rattle.predict.specs.declared.Sort.{Sort}
 use Rattle.predict.specs.declared.Sort.TheVariants.{Alive, Initializing, Dead}
-use Rattle.predict.specs.declared.Kept.{Kept}
 
 -- ---- drop
 
 -- present and below 0
-abbrev pub below_zero : ReidCounter → Bool
-below_zero Absent = false
-below_zero (Present c) = lt_z c (pos 0)
+abbrev pub below_zero : Option ℤ → Bool
+below_zero None = false
+below_zero (Some c) = lt_z c (pos 0)
 
 -- if no ReID maximum is set, drop records with hit counter below 0; else those with a ReID counter present and below 0
-abbrev pub gone_by : ReidCounter → TrackedObject → Bool
-gone_by Absent o = lt_z o.life.hit_counter (pos 0)
-gone_by (Present m) o = below_zero o.life.reid_hit_counter
+abbrev pub gone_by : Option ℤ → TrackedObject → Bool
+gone_by None o = lt_z o.life.hit_counter (pos 0)
+gone_by (Some m) o = below_zero o.life.reid_hit_counter
 
 abbrev pub gone : TrackerConfig → TrackedObject → Bool
 gone c o = gone_by c.reid_hit_counter_max o
@@ -43,16 +41,16 @@ abbrev pub kept_of : TrackerConfig → ℕ → List TrackedObject → List Float
 kept_of c n records s = kept_slots c (slots (block_size c) records s n)
 
 abbrev pub kept_records : TrackerConfig → ℕ → List TrackedObject → List Float → Kept
-kept_records c n records s = record { records = records_back (kept_of c n records s) records; count = length (kept_of c n records s) }
+kept_records c n records s = kept_back (kept_of c n records s) records
 
 abbrev pub kept_floats : TrackerConfig → ℕ → List TrackedObject → List Float → List Float
 kept_floats c n records s = floats_back (block_size c) (kept_of c n records s) s
 
 -- ---- sort out, before any counter falls
 
-abbrev pub present : ReidCounter → Bool
-present Absent = false
-present (Present m) = true
+abbrev pub present : Option ℤ → Bool
+present None = false
+present (Some m) = true
 
 abbrev pub has_maximum : TrackerConfig → Bool
 has_maximum c = present c.reid_hit_counter_max
@@ -64,7 +62,7 @@ belongs c Initializing o = o.life.is_initializing
 belongs c Dead o = lt_z o.life.hit_counter (pos 0) && has_maximum c
 
 -- the places, ascending
-abbrev pub places_of : TrackerConfig → Sort → ℕ → List TrackedObject → Numbers
+abbrev pub places_of : TrackerConfig → Sort → ℕ → List TrackedObject → Numbers 64
 places_of c sort n records = numbers_of (keep (λ i. belongs c sort (get_or records i zero_object)) (below n))
 
 -- ---- predict

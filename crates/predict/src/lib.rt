@@ -1,17 +1,18 @@
-// Step 1: drop, sort out, predict: docs/RULES.md, rules 30 to 33. A core on a table that passed its checks, with its floats.
+// Step 1: drop, sort out, predict: docs/RULES.md, rules 30 to 33.
+// Where records change they go by value, the table's own array and a count: fixed memory is a rule of the project, and the definitions put them back into that array.
 #![tactic(auto)]
 
-ghost use Rattle.std.specs.Prelude.{◌≡◌, ◌≤◌, ◌*◌, length};
+ghost use Rattle.std.specs.Prelude.{◌≡◌, ◌*◌, ◌≤◌, length};
 ghost use Rattle.parts.specs.Layout.{block_size};
-ghost use Rattle.parts.specs.Ranges.{Sizes};
 ghost use Rattle.table.specs.Slots.{slots, records_back, floats_back, AllInRange};
-ghost use Rattle.predict.specs.Step.{gone, below_zero, has_maximum, belongs, kept_slots, kept_records, kept_floats, places_of, each_predicted, Ready, predict_table, predict_floats};
+ghost use Rattle.predict.specs.Step.{gone, below_zero, belongs, kept_records, kept_floats, places_of, each_predicted, predict_table, predict_floats, Ready};
 
 use matching::Numbers;
-use parts::{ReidCounter, TrackedObject, TrackerConfig, block, past};
-use table::{Counts, Lists, Phase, Table, making};
+use parts::settings::Settings;
+use parts::{TrackedObject, TrackerConfig, block};
+use table::{Counts, Kept, Lists, Phase, Table, making, staying};
 
-// The three lists of step 1.
+// The lists of step 1. The definitions name the three by it; a closure in its place would say less.
 #[derive(Clone, Copy)]
 pub enum Sort {
     Alive,
@@ -19,127 +20,80 @@ pub enum Sort {
     Dead,
 }
 
-// Records and how many.
-#[derive(Clone, Copy)]
-pub struct Kept {
-    pub records: [TrackedObject; 64],
-    pub count: usize,
-}
-
-// Whether a record leaves: without a ReID maximum by its hit counter, else by its ReID counter.
-pub fn is_gone(config: TrackerConfig, o: TrackedObject) -> bool
-    ensures { result ≡ gone config o }
-{
-    let maximum = config.reid_hit_counter_max;
-    let life = o.life;
-    let counter = life.reid_hit_counter;
-    match maximum {
-        ReidCounter::Absent => life.hit_counter < 0,
-        ReidCounter::Present(_) => is_below_zero(counter),
-    }
-}
-
-// A counter that is present and below 0.
-fn is_below_zero(counter: ReidCounter) -> bool
+// Whether a counter is present and below 0.
+fn is_below_zero(counter: Option<i32>) -> bool
     ensures { result ≡ below_zero counter }
 {
     match counter {
-        ReidCounter::Absent => false,
-        ReidCounter::Present(c) => c < 0,
+        None => false,
+        Some(c) => c < 0,
     }
 }
 
-fn has_maximum(config: TrackerConfig) -> bool
-    ensures { result ≡ has_maximum config }
+// Whether a record leaves.
+pub fn is_gone(config: TrackerConfig, o: &TrackedObject) -> bool
+    ensures { result ≡ gone config o.now }
 {
-    let maximum = config.reid_hit_counter_max;
-    match maximum {
-        ReidCounter::Absent => false,
-        ReidCounter::Present(_) => true,
+    match config.reid_hit_counter_max {
+        None => o.life.hit_counter < 0,
+        Some(_) => is_below_zero(o.life.reid_hit_counter),
     }
 }
 
 // Whether a record stands in a list.
-fn stands_in(config: TrackerConfig, sort: Sort, o: TrackedObject) -> bool
-    ensures { result ≡ belongs config sort o }
+fn stands_in(config: TrackerConfig, sort: Sort, o: &TrackedObject) -> bool
+    ensures { result ≡ belongs config sort o.now }
 {
-    let life = o.life;
-    let dead = laws::both(life.hit_counter < 0, has_maximum(config));
     match sort {
-        Sort::Alive => laws::both(0 <= life.hit_counter, !life.is_initializing),
-        Sort::Initializing => life.is_initializing,
-        Sort::Dead => dead,
+        Sort::Alive => 0 <= o.life.hit_counter && !o.life.is_initializing,
+        Sort::Initializing => o.life.is_initializing,
+        Sort::Dead => o.life.hit_counter < 0 && config.reid_hit_counter_max.is_some(),
     }
 }
 
 // The records that stay move down in order, and their blocks with them.
-fn drop_gone(config: TrackerConfig, records: [TrackedObject; 64], n: usize, s: &mut [f64]) -> Kept
-    requires { Sizes config × (n ≤ 64) × (n * block_size config ≤ length s.old) }
-    ensures value { result ≡ kept_records config n records s.old }
-    ensures s_after { s.new ≡ kept_floats config n records s.old }
+fn drop_gone(settings: Settings, records: [TrackedObject; 64], n: usize, s: &mut [f64]) -> Kept
+    requires { (n ≤ 64) × (n * block_size settings.config ≤ length s.old) }
+    ensures value { result ≡ kept_records settings.config n records s.old }
+    ensures s_after { s.new ≡ kept_floats settings.config n records s.old }
 {
-    let at = block::layout_of(config);
-    let size = at.size;
-    let mut kept = records;
-    let mut k = 0;
-    let mut i = 0;
-    while i < n {
-        let o = records[i];
-        if is_gone(config, o) {
-            i += 1;
-            continue;
-        }
-        kept[k] = o;
-        past::move_down(s, k * size, i * size, size);
-        k += 1;
-        i += 1;
+    let mut stays = [false; 64];
+    for i in 0..n {
+        stays[i] = !is_gone(settings.config, &records[i]);
     }
-    Kept {
-        records: kept,
-        count: k,
-    }
+    staying::move_staying(settings, records, n, s, stays)
 }
 
 // The places of the records that stand in a list, ascending.
-fn sort_out(config: TrackerConfig, sort: Sort, records: [TrackedObject; 64], n: usize) -> Numbers
-    requires { n ≤ 64 }
-    ensures { result ≡ places_of config sort n records }
+fn sort_out(config: TrackerConfig, sort: Sort, records: &[TrackedObject]) -> Numbers<64>
+    requires { length records.now ≤ 64 }
+    ensures { result ≡ places_of config sort (length records.now) records.now }
 {
-    let mut at = [0usize; 64];
-    let mut count = 0;
-    let mut i = 0;
-    while i < n {
-        let o = records[i];
+    let mut places = making::no_numbers::<64>();
+    for (i, o) in records.iter().enumerate() {
         if stands_in(config, sort, o) {
-            at[count] = i;
-            count += 1;
+            places.at[places.count] = i;
+            places.count += 1;
         }
-        i += 1;
     }
-    Numbers { at, count }
+    places
 }
 
 // Each of the first n records and its block, predicted.
 fn predict_each(
-    config: TrackerConfig,
+    settings: Settings,
     mut records: [TrackedObject; 64],
     n: usize,
     s: &mut [f64],
 ) -> [TrackedObject; 64]
-    requires { Sizes config × (n ≤ 64) × (n * block_size config ≤ length s.old) × AllInRange config n records }
-    ensures value { result ≡ records_back (each_predicted config (slots (block_size config) records s.old n)) records }
-    ensures s_after { s.new ≡ floats_back (block_size config) (each_predicted config (slots (block_size config) records s.old n)) s.old }
+    requires { (n ≤ 64) × (n * block_size settings.config ≤ length s.old) × AllInRange settings.config n records }
+    ensures value { result ≡ records_back (each_predicted settings.config (slots (block_size settings.config) records s.old n)) records }
+    ensures s_after { s.new ≡ floats_back (block_size settings.config) (each_predicted settings.config (slots (block_size settings.config) records s.old n)) s.old }
 {
-    let at = block::layout_of(config);
-    let size = at.size;
-    let mut i = 0;
-    while i < n {
-        let o = records[i];
+    let size = block::layout_of(settings).size;
+    for i in 0..n {
         let start = i * size;
-        let end = start + size;
-        let next = tracked_object::predict(config, o, &mut s[start..end]);
-        records[i] = next;
-        i += 1;
+        records[i] = tracked_object::predict(settings, records[i], &mut s[start..start + size]);
     }
     records
 }
@@ -151,35 +105,25 @@ pub fn predict_table(t: Table, s: &mut [f64]) -> Table
     ensures s_after { s.new ≡ predict_floats t s.old }
 {
     let config = t.config;
-    let counts = t.counts;
-    let records = t.records;
-    let kept = drop_gone(config, records, counts.records, s);
-    let sorted = kept.records;
+    let settings = Settings { config };
+    let kept = drop_gone(settings, t.records, t.counts.records, s);
     let n = kept.count;
-    let alive = sort_out(config, Sort::Alive, sorted, n);
-    let initializing = sort_out(config, Sort::Initializing, sorted, n);
-    let dead = sort_out(config, Sort::Dead, sorted, n);
-    let predicted = predict_each(config, sorted, n, s);
-    let none = making::no_numbers();
-    let candidates = making::no_candidates();
+    let in_table = &kept.records[..n];
+    let lists = Lists {
+        alive: sort_out(config, Sort::Alive, in_table),
+        initializing: sort_out(config, Sort::Initializing, in_table),
+        dead: sort_out(config, Sort::Dead, in_table),
+        ..making::no_lists()
+    };
     Table {
-        records: predicted,
-        config,
+        records: predict_each(settings, kept.records, n, s),
         counts: Counts {
             records: n,
-            frames: counts.frames + 1,
-            opened: counts.opened,
-            permanent: counts.permanent,
-            global: counts.global,
-            initializing: counts.initializing,
+            frames: t.counts.frames + 1,
+            ..t.counts
         },
         phase: Phase::Match,
-        lists: Lists {
-            alive,
-            initializing,
-            dead,
-            old: none,
-            candidates,
-        },
+        lists,
+        ..t
     }
 }

@@ -1,91 +1,63 @@
 // The made-up fish: four swim downstream, each in its lane at its own speed, and the camera does not see each of them in every frame.
+use std::alloc::{AllocError, Global};
+use std::ops::Range;
 
-// What the camera sees in a frame: how many fish, and where, two coordinates each.
-#[derive(Clone, Copy)]
-pub(crate) struct Seen {
-    pub(crate) points: [f64; 16],
-    pub(crate) count: usize,
-}
-
-// A fish swims from frame first on; it is hidden from frame hidden to before frame back.
-#[derive(Clone, Copy)]
+// A fish swims from frame `first` on; the camera does not see it in the frames `hidden`.
 struct Fish {
     lane: f64,
     speed: f64,
     first: u32,
-    hidden: u32,
-    back: u32,
+    hidden: Range<u32>,
 }
 
-fn swimmer(k: usize) -> Fish {
-    match k {
-        // always in sight
-        0 => swims(10.0, 1.5, 1, 99, 99),
-        // out of sight for two frames: the tracker still knows it
-        1 => swims(35.0, 2.0, 1, 5, 7),
-        // out of sight for four frames: its record dies
-        2 => swims(60.0, 2.5, 1, 4, 8),
-        // comes late
-        _ => swims(85.0, 3.0, 5, 99, 99),
-    }
-}
-
-fn swims(lane: f64, speed: f64, first: u32, hidden: u32, back: u32) -> Fish {
+static FISH: [Fish; 4] = [
+    // always in sight
     Fish {
-        lane,
-        speed,
-        first,
-        hidden,
-        back,
+        lane: 10.0,
+        speed: 1.5,
+        first: 1,
+        hidden: 0..0,
+    },
+    // out of sight for two frames: the tracker still knows it
+    Fish {
+        lane: 35.0,
+        speed: 2.0,
+        first: 1,
+        hidden: 5..7,
+    },
+    // out of sight for four frames: its record dies
+    Fish {
+        lane: 60.0,
+        speed: 2.5,
+        first: 1,
+        hidden: 4..8,
+    },
+    // comes late
+    Fish {
+        lane: 85.0,
+        speed: 3.0,
+        first: 5,
+        hidden: 0..0,
+    },
+];
+
+impl Fish {
+    fn is_seen(&self, frame: u32) -> bool {
+        self.first <= frame && !self.hidden.contains(&frame)
+    }
+
+    // How far downstream the fish is.
+    fn reached(&self, frame: u32) -> f64 {
+        self.speed * (f64::from(frame) - f64::from(self.first))
     }
 }
 
-fn is_seen(f: Fish, frame: u32) -> bool {
-    if frame < f.first {
-        return false;
+// Where the camera sees fish in this frame, two coordinates each.
+pub(crate) fn camera(alloc: Global, frame: u32) -> Result<Vec<f64>, AllocError> {
+    let mut points = Vec::new(alloc);
+    for fish in FISH.iter().filter(|fish| fish.is_seen(frame)) {
+        points.push(fish.reached(frame))?;
+        points.push(fish.lane)?;
     }
-    if frame < f.hidden {
-        return true;
-    }
-    f.back <= frame
-}
-
-// How far downstream the fish is.
-fn reached(f: Fish, frame: u32) -> f64 {
-    f.speed * (frame as f64 - f.first as f64)
-}
-
-// One detection more, behind those that stand there.
-fn with(seen: Seen, x: f64, y: f64) -> Seen {
-    let mut points = seen.points;
-    let n = seen.count;
-    if n >= 8 {
-        return seen;
-    }
-    points[2 * n] = x;
-    points[2 * n + 1] = y;
-    Seen {
-        points,
-        count: n + 1,
-    }
-}
-
-// With the fish, if it is in sight.
-fn looked(seen: Seen, f: Fish, frame: u32) -> Seen {
-    if is_seen(f, frame) {
-        return with(seen, reached(f, frame), f.lane);
-    }
-    seen
-}
-
-// What the camera sees in this frame.
-pub(crate) fn camera(frame: u32) -> Seen {
-    let none = Seen {
-        points: [0.0; 16],
-        count: 0,
-    };
-    let one = looked(none, swimmer(0), frame);
-    let two = looked(one, swimmer(1), frame);
-    let three = looked(two, swimmer(2), frame);
-    looked(three, swimmer(3), frame)
+    Ok(points)
 }

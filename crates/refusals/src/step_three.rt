@@ -1,316 +1,218 @@
 // Bad input to step 3: each refusal alone and in pairs, lengths and declarations, and tables altered between the steps in ways that stay whole.
-use crate::{good, put, put_kept, same, step_two, stepped};
-use matching::Numbers;
-use std::io;
-use table::{Candidates, Phase, Table};
+ghost use Rattle.std.specs.Prelude.{◌≤◌};
 
-// A list of n places, of which the first two are given and each other is its own number.
-fn places(first: usize, second: usize, n: usize) -> Numbers {
-    let mut at = [0usize; 64];
-    let mut i = 0;
-    while i < 64 {
-        at[i] = i;
-        i += 1;
-    }
-    at[0] = first;
-    at[1] = second;
-    Numbers { at, count: n }
-}
+use crate::fault::{Faults, each_two};
+use crate::same::Same;
+use crate::tables::{MOST_FRAMES, good, holding, places};
+use crate::{number_of, told};
+use matching::Numbers;
+use parts::TrackerConfig;
+use std::fmt::Display;
+use std::io;
+use table::{Counts, Phase, Table};
+use tracker::Refusal;
 
 // The front of a list, as candidates.
-fn front(list: Numbers) -> Candidates {
-    let from = list.at;
-    let mut at = [0usize; 32];
-    let mut i = 0;
-    while i < 32 {
-        at[i] = from[i];
-        i += 1;
-    }
-    Candidates {
+fn front(list: Numbers<64>) -> Numbers<32> {
+    let mut at = [0; 32];
+    at.copy_from_slice(&list.at[..32]);
+    Numbers {
         at,
         count: list.count,
     }
 }
 
 // A table of two active records in step 3, with a ReID distance declared or not, and these lists.
-fn meeting(declared: bool, candidates: Numbers, old: Numbers) -> Table {
-    let mut config = good();
-    config.has_reid_distance = declared;
-    let storage = [0.0; 30];
-    let fresh = tracker::new(config, &storage).table;
-    let t = step_two::holding(fresh, 2, Phase::Reid);
-    let mut lists = t.lists;
-    let rows = front(candidates);
-    lists.candidates = rows;
-    lists.old = old;
-    let mut next = t;
-    next.lists = lists;
-    next
-}
-
-// The table with one fault, which asks for this refusal.
-fn with_fault(t: Table, refusal: usize) -> Table {
-    if refusal == 6 {
-        return stepped(t);
-    }
-    step_two::spoilt(t, refusal)
+fn meeting(has_reid_distance: bool, candidates: Numbers<64>, old: Numbers<64>) -> Table {
+    let config = TrackerConfig {
+        has_reid_distance,
+        ..good()
+    };
+    let mut t = holding(config, 2, Phase::Reid);
+    t.lists.candidates = front(candidates);
+    t.lists.old = old;
+    t
 }
 
 // What step 3 answers with so many floats, distances of 0.5 and places lent, and whether anything changed.
-fn run(rt: &impl Print, t: Table, floats: usize, entries: usize, room: usize) -> io::Result<()> {
-    let mut storage = [0.25; 30];
+fn run(
+    rt: &impl Print,
+    name: impl Display + Drop,
+    t: Table,
+    floats: usize,
+    entries: usize,
+    room: usize,
+) -> io::Result<()>
+    requires floats_are_there { floats ≤ 30 }
+    requires entries_are_there { entries ≤ 4 }
+    requires room_is_there { room ≤ 4 }
+{
     let before = [0.25; 30];
-    let distances = [0.5; 4];
-    let mut active = [77u32; 4];
-    if floats > 30 {
-        return Ok(());
-    }
-    if entries > 4 {
-        return Ok(());
-    }
-    if room > 4 {
-        return Ok(());
-    }
+    let mut storage = before;
+    let mut active = [77; 4];
     let a = tracker::reid(
         t,
         &mut storage[..floats],
-        &distances[..entries],
+        &[0.5; 4][..entries],
         &mut active[..room],
     );
-    let after = a.table;
-    rt.print(a.refusal as u64)?;
-    let front = laws::both(active[0] == 77, active[1] == 77);
-    let list = laws::both(front, laws::both(active[2] == 77, active[3] == 77));
-    let kept = laws::both(
-        same::same_tables(t, after),
-        laws::both(same::same_floats(&before, &storage), list),
-    );
-    put_kept(rt, kept)
+    let kept = a.table.same(&t) && storage.same(&before) && active == [77; 4];
+    println!(rt; "step 3, {name}: {}, {}", number_of(&a), told(kept))
 }
 
-// The refusals of step 3 in their order.
-fn refusal_at(i: usize) -> usize {
-    let order = [5usize, 4, 6, 10, 11];
-    if i < 5 {
-        return order[i];
+// With two faults, which may be one.
+fn run_with(rt: &impl Print, both: Faults) -> io::Result<()> {
+    let mut t = meeting(true, places(0, 1, 1), places(1, 0, 1));
+    if both.has(Refusal::TableNotWhole) {
+        t.counts.frames = MOST_FRAMES + 1;
     }
-    0
+    if both.has(Refusal::OutOfStep) {
+        t.phase = Phase::Match;
+    }
+    let floats = if both.has(Refusal::StorageShort) {
+        14
+    } else {
+        30
+    };
+    let entries = if both.has(Refusal::Lengths) { 2 } else { 1 };
+    let room = if both.has(Refusal::OutputShort) { 1 } else { 2 };
+    run(rt, both, t, floats, entries, room)
 }
 
-// With these two faults, which may be one.
-fn run_with(rt: &impl Print, first: usize, second: usize) -> io::Result<()> {
-    let whole = meeting(true, places(0, 1, 1), places(1, 0, 1));
-    let t = with_fault(with_fault(whole, first), second);
-    let mut floats = 30;
-    let mut entries = 1;
-    let mut room = 2;
-    if !laws::both(first != 4, second != 4) {
-        floats = 14;
-    }
-    if !laws::both(first != 10, second != 10) {
-        entries = 2;
-    }
-    if !laws::both(first != 11, second != 11) {
-        room = 1;
-    }
-    step_two::put_faults(rt, first, second)?;
-    run(rt, t, floats, entries, room)
-}
-
-// Each refusal alone, and each two of them: the first in order answers.
+// Each refusal alone, and each two of them, in the order in which step 3 asks: the first answers.
 pub(crate) fn faults(rt: &impl Print) -> io::Result<()> {
-    let mut i = 0;
-    while i < 5 {
-        let mut j = i;
-        while j < 5 {
-            rt.write_all(b"step 3, ")?;
-            run_with(rt, refusal_at(i), refusal_at(j))?;
-            j += 1;
-        }
-        i += 1;
-    }
-    Ok(())
-}
-
-// With so many candidates and old ones, declared or not, and so many distances and places lent.
-fn of_lengths(
-    rt: &impl Print,
-    name: &[u8],
-    declared: bool,
-    candidates: usize,
-    old: usize,
-    entries: usize,
-    room: usize,
-) -> io::Result<()> {
-    rt.write_all(b"step 3, ")?;
-    rt.write_all(name)?;
-    rt.write_all(b": ")?;
-    let t = meeting(declared, places(0, 1, candidates), places(1, 0, old));
-    run(rt, t, 30, entries, room)
+    let in_order = [
+        Refusal::TableNotWhole,
+        Refusal::StorageShort,
+        Refusal::OutOfStep,
+        Refusal::Lengths,
+        Refusal::OutputShort,
+    ];
+    each_two(&in_order, |both| run_with(rt, both))
 }
 
 // Matrix lengths 0, one short, as asked and one long; declared and not; an active list one place short.
 pub(crate) fn lengths(rt: &impl Print) -> io::Result<()> {
-    of_lengths(rt, b"declared, 2 asked, 0 lent", true, 1, 2, 0, 2)?;
-    of_lengths(rt, b"declared, 2 asked, 1 lent", true, 1, 2, 1, 2)?;
-    of_lengths(rt, b"declared, 2 asked, 2 lent", true, 1, 2, 2, 2)?;
-    of_lengths(rt, b"declared, 2 asked, 3 lent", true, 1, 2, 3, 2)?;
-    nothing_to_match(rt)?;
-    not_declared(rt)
-}
-
-fn nothing_to_match(rt: &impl Print) -> io::Result<()> {
-    of_lengths(rt, b"declared, no candidates, 0 lent", true, 0, 2, 0, 2)?;
-    of_lengths(rt, b"declared, no old ones, 1 lent", true, 1, 0, 1, 2)
-}
-
-fn not_declared(rt: &impl Print) -> io::Result<()> {
-    of_lengths(rt, b"not declared, 0 lent", false, 1, 2, 0, 2)?;
-    of_lengths(rt, b"not declared, 2 lent", false, 1, 2, 2, 2)?;
-    of_lengths(rt, b"an active list one place short", false, 1, 2, 0, 1)?;
-    of_lengths(rt, b"an active list longer than asked", false, 1, 2, 0, 4)
-}
-
-fn put_id(rt: &impl Print, id: u32) -> io::Result<()> {
-    put(rt, b" ", id as usize)
+    let met = |declared, candidates, old| {
+        meeting(declared, places(0, 1, candidates), places(1, 0, old))
+    };
+    let both = met(true, 1, 2);
+    let no_candidates = met(true, 0, 2);
+    let no_old = met(true, 1, 0);
+    let undeclared = met(false, 1, 2);
+    run(rt, "declared, 2 asked, 0 lent", both, 30, 0, 2)?;
+    run(rt, "declared, 2 asked, 1 lent", both, 30, 1, 2)?;
+    run(rt, "declared, 2 asked, 2 lent", both, 30, 2, 2)?;
+    run(rt, "declared, 2 asked, 3 lent", both, 30, 3, 2)?;
+    run(
+        rt,
+        "declared, no candidates, 0 lent",
+        no_candidates,
+        30,
+        0,
+        2,
+    )?;
+    run(rt, "declared, no old ones, 1 lent", no_old, 30, 1, 2)?;
+    run(rt, "not declared, 0 lent", undeclared, 30, 0, 2)?;
+    run(rt, "not declared, 2 lent", undeclared, 30, 2, 2)?;
+    run(rt, "an active list one place short", undeclared, 30, 0, 1)?;
+    run(rt, "an active list longer than asked", undeclared, 30, 0, 4)
 }
 
 // What step 3 makes of these lists and this matrix: the records left and the active ones.
 fn merged(
     rt: &impl Print,
-    name: &[u8],
-    candidates: Numbers,
-    old: Numbers,
+    name: &str,
+    candidates: Numbers<64>,
+    old: Numbers<64>,
     distances: &[f64],
 ) -> io::Result<()> {
-    let mut storage = [0.25; 30];
-    let mut active = [0u32; 2];
-    let a = tracker::reid(
-        meeting(true, candidates, old),
-        &mut storage,
-        distances,
-        &mut active,
-    );
-    let table = a.table;
-    let counts = table.counts;
-    rt.write_all(b"step 3, ")?;
-    rt.write_all(name)?;
-    put(rt, b": ", a.refusal as usize)?;
-    put(rt, b", records ", counts.records)?;
-    rt.write_all(b", active")?;
-    let mut i = 0;
-    while i < 2 {
-        if i < a.count {
-            put_id(rt, active[i])?;
-        }
-        i += 1;
+    let mut active = [0; 2];
+    let t = meeting(true, candidates, old);
+    let a = tracker::reid(t, &mut [0.25; 30], distances, &mut active);
+    print!(rt;
+        "step 3, {name}: {}, records {}, active",
+        number_of(&a),
+        a.table.counts.records
+    )?;
+    for id in active.iter().take(a.count) {
+        print!(rt; " {id}")?;
     }
-    rt.write_all(b"\n")
+    println!(rt)
 }
 
 // Lists that overlap or are unsorted: neither traps nor loops.
 pub(crate) fn altered(rt: &impl Print) -> io::Result<()> {
-    merged(
-        rt,
-        b"one record absorbed",
-        places(0, 1, 1),
-        places(1, 0, 1),
-        &[0.5],
-    )?;
-    merged(
-        rt,
-        b"a record that is its own old one",
-        places(0, 1, 1),
-        places(0, 1, 1),
-        &[0.5],
-    )?;
-    merged(
-        rt,
-        b"two records that absorb each other",
-        places(0, 1, 2),
-        places(1, 0, 2),
-        &[0.5, 2.0, 2.0, 0.5],
-    )?;
-    unsorted(rt)?;
+    let first = places(0, 1, 1);
+    let second = places(1, 0, 1);
+    let sorted = places(0, 1, 2);
+    let unsorted = places(1, 0, 2);
+    let twice = places(0, 0, 2);
+    for (name, candidates, old, distances) in [
+        ("one record absorbed", first, second, &[0.5][..]),
+        ("a record that is its own old one", first, first, &[0.5]),
+        (
+            "two records that absorb each other",
+            sorted,
+            unsorted,
+            &[0.5, 2.0, 2.0, 0.5],
+        ),
+        ("unsorted lists", unsorted, unsorted, &[2.0, 0.5, 2.0, 2.0]),
+        ("nothing close enough", first, second, &[1.0]),
+        (
+            "a list that names a record twice",
+            twice,
+            second,
+            &[0.5, 0.5],
+        ),
+    ] {
+        merged(rt, name, candidates, old, distances)?;
+    }
     many(rt)
-}
-
-fn unsorted(rt: &impl Print) -> io::Result<()> {
-    merged(
-        rt,
-        b"unsorted lists",
-        places(1, 0, 2),
-        places(1, 0, 2),
-        &[2.0, 0.5, 2.0, 2.0],
-    )?;
-    merged(
-        rt,
-        b"nothing close enough",
-        places(0, 1, 1),
-        places(1, 0, 1),
-        &[1.0],
-    )?;
-    merged(
-        rt,
-        b"a list that names a record twice",
-        places(0, 0, 2),
-        places(1, 0, 1),
-        &[0.5, 0.5],
-    )
 }
 
 // A table of 33 records, of which so many are counted as candidates.
 fn crowd(candidates: usize) -> Table {
-    let mut config = good();
-    config.capacity = 64;
-    config.has_reid_distance = true;
-    let storage = [0.0; 960];
-    let fresh = tracker::new(config, &storage).table;
-    let t = step_two::holding(fresh, 2, Phase::Reid);
-    let mut counts = t.counts;
-    counts.records = 33;
-    counts.opened = 33;
-    counts.global = 34;
-    counts.initializing = 34;
-    let first = t.records;
-    let o = first[1];
-    let mut lists = t.lists;
-    let rows = front(places(0, 1, candidates));
-    lists.candidates = rows;
-    lists.old = places(0, 1, 1);
-    let mut next = t;
-    next.records = [o; 64];
-    next.counts = counts;
-    next.lists = lists;
-    next
+    let config = TrackerConfig {
+        capacity: 64,
+        has_reid_distance: true,
+        ..good()
+    };
+    let mut t = holding(config, 2, Phase::Reid);
+    t.counts = Counts {
+        records: 33,
+        opened: 33,
+        global: 34,
+        initializing: 34,
+        ..t.counts
+    };
+    t.records = [t.records[1]; 64];
+    t.lists.candidates = front(places(0, 1, candidates));
+    t.lists.old = places(0, 1, 1);
+    t
 }
 
 // A count of 33 is above the candidates' 32 places; of 32 the last is close.
 fn many(rt: &impl Print) -> io::Result<()> {
-    let mut more = [2.0; 33];
-    more[31] = 0.5;
-    of_candidates(rt, &more)?;
-    let mut most = [2.0; 32];
-    most[31] = 0.5;
-    of_candidates(rt, &most)
+    let mut distances = [2.0; 33];
+    distances[31] = 0.5;
+    of_candidates(rt, &distances)?;
+    of_candidates(rt, &distances[..32])
 }
 
 // As many candidates as distances to the one old record.
 fn of_candidates(rt: &impl Print, distances: &[f64]) -> io::Result<()> {
-    let n = distances.len();
-    let t = crowd(n);
-    let mut storage = [0.25; 960];
+    let t = crowd(distances.len());
     let before = [0.25; 960];
-    let mut active = [77u32; 64];
+    let mut storage = before;
+    let mut active = [77; 64];
     let a = tracker::reid(t, &mut storage, distances, &mut active);
-    let after = a.table;
-    let counts = after.counts;
-    put(rt, b"step 3, candidates ", n)?;
-    put(rt, b": ", a.refusal as usize)?;
-    put(rt, b", records ", counts.records)?;
-    let kept = laws::both(
-        same::same_tables(t, after),
-        laws::both(same::same_floats(&before, &storage), active[0] == 77),
-    );
-    put_kept(rt, kept)
+    let kept = a.table.same(&t) && storage.same(&before) && active == [77; 64];
+    println!(rt;
+        "step 3, candidates {}: {}, records {}, {}",
+        distances.len(),
+        number_of(&a),
+        a.table.counts.records,
+        told(kept)
+    )
 }

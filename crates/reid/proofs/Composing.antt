@@ -1,7 +1,7 @@
 -- Step 3's parts one after another: the drop finds the slots that the merges put back.
 use mathlib.Core.Path.{◌≡◌, sym, ◌∙◌, ap}
 use mathlib.Core.List.{List}
-use Prim.Native.Nat.{◌*◌, ◌≤◌}
+use Prim.Native.Nat.{◌≤◌}
 use lib.Ieee.{Float}
 use lib.ListN.{length, take}
 use Rattle.laws.specs.Every.{Every}
@@ -15,10 +15,10 @@ use Rattle.parts.specs.Layout.{block_size}
 use Rattle.tracked_object.specs.Object.{object_merged}
 use Rattle.tracked_object.proofs.MergeLaws.{merging_long}
 use Rattle.table.specs.declared.Table.{Table}
-use Rattle.table.specs.Slots.{Slot, slots, records_back, floats_back, table_slots}
+use Rattle.table.specs.Slots.{kept_back, Slot, slots, records_back, floats_back, table_slots}
 use Rattle.table.proofs.SlotLaws.{Sized, block_whole, slots_length, slots_every, slots_back, floats_length}
-use Rattle.reid.specs.declared.Staying.{Staying}
-use Rattle.reid.specs.Step.{slot_merged, merge_all, merges, staying_at, staying_of, slots_merged, slots_staying, reid_floats, Ready}
+use Rattle.table.specs.declared.Kept.{Kept}
+use Rattle.reid.specs.Step.{slot_merged, merge_all, merges, staying_at, slots_merged, slots_staying, reid_floats, Ready}
 use Rattle.reid.proofs.Places.{merges_within}
 use Rattle.reid.proofs.Absorbing.{merges_length, merges_keep}
 
@@ -66,9 +66,6 @@ module _ (t : Table) (s ds : List Float) (ready : Ready t (length s) (length ds)
     unfolding slots_merged
     as_merged = rw (decided, picked_of (merges t ds))
 
-    pub floats_room : t.counts.records * block_size t.config ≤ length f
-    floats_room = rw (floats, as_merged, merged_floats) ready.room
-
     found : staying_at (take places.count places.rows) (slots (block_size t.config) merged f t.counts.records) ≡ slots_staying t s ds
     unfolding slots_staying
     found =
@@ -81,8 +78,8 @@ module _ (t : Table) (s ds : List Float) (ready : Ready t (length s) (length ds)
 
     -- ---- behind the drop
 
-    module _ {kept : Staying} {g : List Float}
-        (dropped : kept ≡ staying_of (staying_at (take places.count places.rows) (slots (block_size t.config) merged f t.counts.records)) merged)
+    module _ {kept : Kept} {g : List Float}
+        (dropped : kept ≡ kept_back (staying_at (take places.count places.rows) (slots (block_size t.config) merged f t.counts.records)) merged)
         (moved : g ≡ floats_back (block_size t.config) (staying_at (take places.count places.rows) (slots (block_size t.config) merged f t.counts.records)) f) where
       pub count_after : kept.count ≡ length (slots_staying t s ds)
       count_after = rw (dropped, found)

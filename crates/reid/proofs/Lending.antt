@@ -2,24 +2,26 @@
 use mathlib.Core.Path.{◌≡◌, sym, ◌∙◌, ap}
 use mathlib.Core.List.{List, ◌++◌}
 use Prim.Native.Nat.{ℕ, ◌+◌, ◌-◌, ◌*◌, ◌≤◌}
-use native.Mathlib.Omega.{arith}
 use lib.Ieee.{Float}
 use lib.ListN.{length, take, drop, replicate}
-use lib.Seq.{paste, length-take-le, take_at}
+use lib.Seq.{paste, take_at}
+use Rattle.std.proofs.lemmas.List.{drop-replicate}
 use Rattle.laws.specs.Float64.{f0}
 use Rattle.laws.specs.Lists.{filled}
-use Rattle.laws.proofs.Growing.{length-filled}
 use Rattle.laws.proofs.Pasting.{part_same, length_part, part_long, part_back}
 use Rattle.parts.specs.declared.TrackerConfig.{TrackerConfig}
 use Rattle.parts.specs.declared.block.Layout.{Layout}
 use Rattle.parts.specs.Layout.{block_size, layout_of}
-use Rattle.parts.specs.Ranges.{Sizes}
-use Rattle.table.proofs.Facts.{block_most}
+
+-- a block in front of an array of zeros
+pub copied_out : (s : List Float) (start size : ℕ) {block : List Float} → size ≤ 864 → start + size ≤ length s
+    → block ≡ take (start + size - start) (drop start s)
+    → block ++ drop size (replicate 864 f0) ≡ filled 864 f0 (take size (drop start s))
+copied_out s start size few fits e = rw (e, part_same s start size, length_part s start size fits, drop-replicate)
 
 -- by the layout that the code computed: blocks a and b lie in the floats
 pub record Lends (c : TrackerConfig) (r : Layout) (s : List Float) (a b : ℕ) : Type 0 where
   pub layout : r ≡ layout_of c
-  pub sizes : Sizes c
   pub from : a * block_size c + block_size c ≤ length s
   pub on : b * block_size c + block_size c ≤ length s
 
@@ -27,30 +29,21 @@ abbrev pub block_at : TrackerConfig → List Float → ℕ → List Float
 block_at c s i = take (block_size c) (drop (i * block_size c) s)
 
 module _ {c : TrackerConfig} {r : Layout} {s : List Float} {a b : ℕ} (lends : Lends c r s a b) where
-  pub size_is : r.size ≡ block_size c
+  size_is : r.size ≡ block_size c
   size_is = ap (λ (x : Layout). x.size) lends.layout
 
-  pub from_inside : a * r.size + r.size ≤ length s
+  from_inside : a * r.size + r.size ≤ length s
   from_inside = rw size_is lends.from
 
-  pub on_inside : b * r.size + r.size ≤ length s
+  on_inside : b * r.size + r.size ≤ length s
   on_inside = rw size_is lends.on
 
-  pub size_most : r.size ≤ 864
-  size_most = rw size_is (block_most c lends.sizes)
-
-  pub on_long : length (take (b * r.size + r.size - b * r.size) (drop (b * r.size) s)) ≡ block_size c
+  on_long : length (take (b * r.size + r.size - b * r.size) (drop (b * r.size) s)) ≡ block_size c
   on_long = part_long s (b * r.size) r.size on_inside ∙ size_is
 
   module _ {copy : List Float} (copied : copy ≡ filled 864 f0 (take r.size (drop (a * r.size) s))) where
     block_long : length (take r.size (drop (a * r.size) s)) ≡ r.size
     block_long = length_part s (a * r.size) r.size from_inside
-
-    pub copy_long : length copy ≡ 864
-    copy_long = rw copied (length-filled 864 f0 (take r.size (drop (a * r.size) s)) (omega (arith, block_long, size_most)))
-
-    pub copy_size : length (take r.size copy) ≡ r.size
-    copy_size = length-take-le r.size copy (omega (arith, copy_long, size_most))
 
     copy_same : take r.size copy ≡ block_at c s a
     copy_same =

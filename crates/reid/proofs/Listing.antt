@@ -1,16 +1,27 @@
 -- Rule 64: one record more: counted and listed if it is active.
 use mathlib.Core.Path.{◌≡◌, refl, sym, ap}
-use mathlib.Core.Bool.{true, false}
+use mathlib.Core.Bool.{Bool, true, false}
 use mathlib.Core.List.{List, [], ◌∷◌, ◌++◌, map-append}
 use Prim.Native.Nat.{ℕ, suc, ◌+◌, ◌<◌, ◌≤◌}
 use native.Mathlib.Omega.{arith}
 use native.Mathlib.Numerals.{add-one}
 use lib.ListN.{length, get_or, set, take, drop, length-map, length-take}
-use lib.Seq.{take-suc}
+use lib.Seq.{take-suc, take-length}
+use Rattle.std.specs.List.{filter}
+use Rattle.laws.specs.Lists.{keep}
 use Rattle.laws.proofs.Growing.{length_snoc, joins, stays_out, length-keep}
 use Rattle.laws.proofs.Fronts.{front_length, front_set}
 use Rattle.parts.specs.declared.TrackedObject.{TrackedObject}
 use Rattle.reid.specs.Step.{active, active_of, active_ids}
+
+-- what a test keeps is what std's `filter` lets through
+keep_is_filter : {A : Type 0} (p : A → Bool) (l : List A) → keep p l ≡ filter p l
+unfolding keep
+keep_is_filter p [] = refl
+keep_is_filter p (x ∷ l) = rw (keep_is_filter p l)
+
+pub active_counted : (records : List TrackedObject) → length (active_of (length records) records) ≡ length (filter active records)
+active_counted records = rw (take-length, keep_is_filter active records)
 
 pub active_few : (n : ℕ) (records : List TrackedObject) → length (active_ids n records) ≤ n
 active_few n records = simp length-map (omega (arith, length-keep active (take n records), length-take n records))
@@ -30,12 +41,6 @@ module _ (records : List TrackedObject) (i : ℕ) (d : TrackedObject) (h : i < l
 
   joined : active (get_or records i d) ≡ true → active_of (i + 1) records ≡ active_of i records ++ (get_or records i d ∷ [])
   joined e = rw (add-one i, take-suc records i d h) (joins active (take i records) (get_or records i d) e)
-
-  pub one_more : {count : ℕ} → active (get_or records i d) ≡ true → count ≡ length (active_of i records) → count + 1 ≡ length (active_of (i + 1) records)
-  one_more {count} e held = rw (joined e, length_snoc (active_of i records) (get_or records i d), add-one count) (ap suc held)
-
-  pub no_more : {count : ℕ} → active (get_or records i d) ≡ false → count ≡ length (active_of i records) → count ≡ length (active_of (i + 1) records)
-  no_more e held = rw (stays e) held
 
   module _ (list₀ : List ℕ) {list : List ℕ} {count : ℕ} (held : Listed records i list₀ list count) where
     pub listed_more : active (get_or records i d) ≡ true → length (active_ids i records) < length list₀

@@ -1,16 +1,18 @@
 -- Rule 60: who is picked, by places in the table: each is a record's.
+use Rattle.std.specs.Prelude.{Ok}
 use mathlib.Core.Path.{◌≡◌, ◌∙◌}
 use mathlib.Core.Bool.{Bool, true, false, cond}
 use mathlib.Core.List.{List, map, map-map}
-use Prim.Native.Nat.{ℕ, ◌*◌, ◌≤◌}
-use native.Mathlib.Nat.{le_refl, le_trans}
+use Prim.Native.Nat.{ℕ, ◌+◌, ◌*◌, ◌<◌, ◌≤◌}
+use native.Mathlib.Nat.{le_trans, mul-le-mul}
 use native.Mathlib.Omega.{arith}
+use borrow.Author.Tests.{not-false}
 use lib.Ieee.{Float}
-use lib.ListN.{length, get_or, replicate, length-map}
+use lib.ListN.{length, get_or, set, replicate, length-map}
 use Rattle.laws.specs.Every.{Every}
 use Rattle.laws.specs.Lists.{below, padded, EachBelow}
 use Rattle.laws.proofs.Every.{every_weaker, every_map, every_unmap, every_and, each_padded}
-use Rattle.laws.proofs.Growing.{length-below}
+use Rattle.laws.proofs.Growing.{length-below, filled_below}
 use Rattle.matching.specs.declared.Numbers.{Numbers}
 use Rattle.matching.specs.declared.Picks.{Picks}
 use Rattle.matching.specs.Greedy.{Pick, rows_of, cols_of, picks}
@@ -18,22 +20,34 @@ use Rattle.matching.specs.Lent.{lent, picks_of, picked}
 use Rattle.matching.proofs.Laws.{rows_taken, cols_taken, at_most_rows}
 use Rattle.matching.proofs.Picked.{Inside, picked_of}
 use Rattle.matching.proofs.Taken.{taken_below}
-use Rattle.table.specs.declared.Candidates.{Candidates}
+use Rattle.table.specs.declared.Phase.TheVariants.{Reid}
 use Rattle.table.specs.declared.Table.{Table}
+use Rattle.table.specs.Refusals.{first_due, checked, step_checks}
+use Rattle.table.proofs.Due.{checked_passed, none_due}
+use Rattle.table.proofs.Facts.{whole_facts}
 use Rattle.reid.specs.Step.{candidates_met, reid_matrix, placed, merges, Meets}
 
 -- ---- as the loop of `places_of` lists them
 
-module _ (candidates : Candidates) (old : Numbers) (p : Picks) where
-  abbrev pub row_at : ℕ → ℕ
-  row_at k = get_or candidates.at (get_or p.rows k 0) 0
+abbrev row_at : Numbers 32 → Picks → ℕ → ℕ
+row_at candidates p k = get_or candidates.at (get_or p.rows k 0) 0
 
-  abbrev pub col_at : ℕ → ℕ
-  col_at k = get_or old.at (get_or p.cols k 0) 0
+abbrev col_at : Numbers 64 → Picks → ℕ → ℕ
+col_at old p k = get_or old.at (get_or p.cols k 0) 0
 
-  pub all_placed : picks_of (map (placed candidates old) (picked p))
-      ≡ record { rows = padded 32 (map row_at (below p.count)); cols = padded 32 (map col_at (below p.count)); count = p.count }
-  all_placed = simp (map-map, length-map, length-below)
+-- the places of the first i picks
+abbrev pub places_below : Numbers 32 → Numbers 64 → Picks → ℕ → Picks
+places_below candidates old p i =
+    record { rows = padded 32 (map (row_at candidates p) (below i)); cols = padded 32 (map (col_at old p) (below i)); count = p.count }
+
+pub places_next : (candidates : Numbers 32) (old : Numbers 64) (p q : Picks) (i : ℕ) → i < 32 → q ≡ places_below candidates old p i
+    → record { rows = set q.rows i (row_at candidates p i); cols = set q.cols i (col_at old p i); count = q.count }
+    ≡ places_below candidates old p (i + 1)
+places_next candidates old p q i h e =
+    rw (e, ← filled_below 32 0 (row_at candidates p) i h, ← filled_below 32 0 (col_at old p) i h)
+
+pub all_placed : (candidates : Numbers 32) (old : Numbers 64) (p : Picks) → picks_of (map (placed candidates old) (picked p)) ≡ places_below candidates old p p.count
+all_placed candidates old p = simp (map-map, length-map, length-below)
 
 -- ---- what `decide` asks of the matching, and gets
 
@@ -61,9 +75,6 @@ module _ (t : Table) (ds : List Float) (meets : Meets t (length ds)) where
 
   rows_most : candidates_met t ≤ 32
   rows_most = le_trans rows_few meets.candidates.0
-
-  pub matrix_fits : {rows : ℕ} → rows ≡ candidates_met t → (rows ≤ 32) × (t.lists.old.count ≤ 64) × (rows * t.lists.old.count ≤ length ds)
-  matrix_fits e = rw (e, meets.lent) (rows_most, meets.old.0, le_refl _)
 
   abbrev found : List Pick
   found = picks (reid_matrix t ds) (replicate 32 false) (replicate 64 false)
@@ -108,3 +119,12 @@ module _ (t : Table) (ds : List Float) (meets : Meets t (length ds)) where
 
   pub merges_bounded : {q : Picks} → q ≡ picks_of (merges t ds) → Bounded t.counts.records t.counts.records q
   merges_bounded e = rw e (bounded (merges t ds) merges_few merges_within)
+
+-- ---- where no refusal of a step is due, the entries asked for are few
+
+pub asked_few : (t : Table) (floats : ℕ) {rows : ℕ} → rows ≡ candidates_met t → checked (first_due (step_checks Reid t floats)) ≡ Ok tt
+    → rows * t.lists.old.count ≤ 32 * 64
+asked_few t floats met e =
+    let none = none_due (step_checks Reid t floats) (checked_passed (first_due (step_checks Reid t floats)) e) in
+    let f = whole_facts t (not-false _ none.0) in
+    rw met (mul-le-mul (le_trans (met_most t.config.has_reid_distance t.lists.candidates.count) f.candidates.count) f.old.count)

@@ -1,4 +1,5 @@
 -- Rules 60 to 65: step 3 renames nobody, exactly the candidates picked leave, its account is fair, and it touches only the floats of its records.
+use Rattle.std.specs.Prelude.{Option}
 use mathlib.Core.Path.{◌≡◌, refl, sym, ◌∙◌, ap}
 use mathlib.Core.Bool.{Bool, not, not-not, cond, ◌&&◌}
 use mathlib.Core.List.{List, map, map-map}
@@ -19,7 +20,6 @@ use Rattle.laws.proofs.Weighing.{keep-map, load_cons, parted}
 use Rattle.matching.specs.Greedy.{Pick, rows_of}
 use Rattle.matching.specs.Unmatched.{unmatched}
 use Rattle.parts.specs.declared.Origin.{Origin}
-use Rattle.parts.specs.declared.PermanentId.{PermanentId}
 use Rattle.parts.specs.declared.TrackerConfig.{TrackerConfig}
 use Rattle.parts.specs.declared.TrackedObject.{TrackedObject}
 use Rattle.parts.specs.Layout.{block_size}
@@ -39,7 +39,7 @@ pub use Rattle.reid.proofs.Listing.{active_few}
 -- what a merge leaves of a record: its IDs, its initial period and its mark
 pub record Who : Type 0 where
   pub origin : Origin
-  pub id : PermanentId
+  pub id : Option ℕ
   pub initializing : Bool
 
 abbrev pub who : TrackedObject → Who

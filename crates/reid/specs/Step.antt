@@ -1,5 +1,5 @@
 -- Rules 60 to 65: step 3 on a table with its floats: who meets whom, the merges, who leaves; the active list; and its account: who was absorbed.
-use Rattle.std.specs.Prelude.{◌≡◌, Bool, true, false, not, cond, ◌&&◌, List, [], ◌∷◌, ◌++◌, map, ℕ, ◌*◌, ◌≤◌, ltb, eqb, pos, length, get_or, set, take, replicate, Float}
+use Rattle.std.specs.Prelude.{◌≡◌, Bool, true, false, not, cond, ◌&&◌, List, [], ◌∷◌, ◌++◌, map, ℕ, ◌*◌, ◌≤◌, ltb, eqb, pos, length, get_or, set, take, replicate, Float, Option, Some, None}
 use Rattle.std.specs.Int.Signed.{le_z}
 use Rattle.laws.specs.Lists.{below, keep, holds, EachBelow}
 use Rattle.laws.specs.Turns.{through}
@@ -7,20 +7,17 @@ use Rattle.matching.specs.declared.Numbers.{Numbers}
 use Rattle.matching.specs.Greedy.{Matrix, Pick, rows_of, picks}
 use Rattle.matching.specs.Lent.{lent}
 use Rattle.matching.specs.Unmatched.{unmatched}
-use Rattle.parts.specs.declared.PermanentId.{PermanentId}
-use Rattle.parts.specs.declared.PermanentId.TheVariants.{Unissued, Issued}
 use Rattle.parts.specs.declared.TrackerConfig.{TrackerConfig}
 use Rattle.parts.specs.declared.TrackedObject.{TrackedObject}
 use Rattle.parts.specs.Layout.{block_size}
 use Rattle.parts.specs.Ranges.{Sizes}
 use Rattle.tracked_object.specs.Object.{object_merged, block_merged}
-use Rattle.table.specs.declared.Candidates.{Candidates}
+use Rattle.table.specs.declared.refusals.Refusal.TheVariants.{Lengths, OutputShort}
 use Rattle.table.specs.declared.Table.{Table}
 use Rattle.table.specs.declared.Phase.TheVariants.{Predict, Reid}
 use Rattle.table.specs.Making.{no_lists}
 use Rattle.table.specs.Refusals.{Check, check, step_checks}
 use Rattle.table.specs.Slots.{Slot, no_slot, records_back, floats_back, table_slots, AllInRange, name_of}
-use Rattle.reid.specs.declared.Staying.{Staying}
 
 -- ---- who meets whom: candidates by old ones, if a ReID distance is declared
 
@@ -34,13 +31,13 @@ distances_asked t = candidates_met t * t.lists.old.count
 -- 5, 4, 6, 10, 11
 abbrev pub reid_checks : Table → ℕ → ℕ → ℕ → List Check
 reid_checks t floats distances places =
-    step_checks Reid t floats ++ (check 10 (not (eqb distances (distances_asked t))) ∷ check 11 (ltb places t.config.capacity) ∷ [])
+    step_checks Reid t floats ++ (check Lengths (not (eqb distances (distances_asked t))) ∷ check OutputShort (ltb places t.config.capacity) ∷ [])
 
 abbrev pub reid_matrix : Table → List Float → Matrix
 reid_matrix t distances = lent distances (candidates_met t) t.lists.old.count t.config.reid_distance_threshold
 
 -- a pick by places in the table: the candidate in the row, the old one in the column
-abbrev pub placed : Candidates → Numbers → Pick → Pick
+abbrev pub placed : Numbers 32 → Numbers 64 → Pick → Pick
 placed candidates old p = record { row = get_or candidates.at p.row 0; col = get_or old.at p.col 0 }
 
 unfoldable pub merges : Table → List Float → List Pick
@@ -119,9 +116,9 @@ pub record Absorbed : Type 0 where
 abbrev pub absorbed_names : List Absorbed → List ℕ
 absorbed_names l = map (λ a. a.name) l
 
-abbrev pub has_permanent : PermanentId → Bool
-has_permanent Unissued = false
-has_permanent (Issued n) = true
+abbrev pub has_permanent : Option ℕ → Bool
+has_permanent None = false
+has_permanent (Some n) = true
 
 abbrev pub absorbed_of : Slot → Absorbed
 absorbed_of y = record { name = name_of y.object; had_permanent = has_permanent y.object.life.id }
@@ -132,10 +129,6 @@ leaving_at leaving slots = map (λ i. get_or slots i no_slot) (keep (λ i. holds
 
 unfoldable pub absorbed : Table → List Float → List Float → List Absorbed
 absorbed t s distances = map absorbed_of (leaving_at (rows_of (merges t distances)) (slots_merged t s distances))
-
--- the records that stay, put back, and how many
-abbrev pub staying_of : List Slot → List TrackedObject → Staying
-staying_of l records = record { records = records_back l records; count = length l }
 
 -- ---- what the public call has once no refusal is due
 

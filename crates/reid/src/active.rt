@@ -5,46 +5,32 @@ ghost use Rattle.reid.specs.Step.{active, active_of, active_ids};
 use parts::TrackedObject;
 
 // Not initializing, hit counter at least 0.
-pub fn is_active(o: TrackedObject) -> bool
-    ensures { result ≡ active o }
+pub fn is_active(o: &TrackedObject) -> bool
+    ensures { result ≡ active o.now }
 {
-    let life = o.life;
-    laws::both(!life.is_initializing, 0 <= life.hit_counter)
+    !o.life.is_initializing && 0 <= o.life.hit_counter
 }
 
-// How many of the first n records are active.
-pub fn active_count(records: [TrackedObject; 64], n: usize) -> usize
-    requires { n ≤ 64 }
-    ensures { result ≡ length (active_of n records) }
+// How many records are active.
+pub fn active_count(records: &[TrackedObject]) -> usize
+    ensures { result ≡ length (active_of (length records.now) records.now) }
 {
-    let mut count = 0;
-    let mut i = 0;
-    while i < n {
-        let o = records[i];
-        if is_active(o) {
-            count += 1;
-        }
-        i += 1;
-    }
-    count
+    records.iter().filter(|o| is_active(o)).count()
 }
 
-// The global IDs of the active among the first n records, in front of a lent list.
-pub fn list_active(records: [TrackedObject; 64], n: usize, list: &mut [u32]) -> usize
-    requires { (n ≤ 64) × (n ≤ length list.old) }
-    ensures value { result ≡ length (active_ids n records) }
-    ensures list_after { list.new ≡ active_ids n records ++ drop (length (active_ids n records)) list.old }
+// The global IDs of the active ones, in front of a lent list.
+pub fn list_active(records: &[TrackedObject], list: &mut [u32]) -> usize
+    requires { length records.now ≤ length list.old }
+    ensures value { result ≡ length (active_ids (length records.now) records.now) }
+    ensures list_after { list.new ≡ active_ids (length records.now) records.now ++ drop (length (active_ids (length records.now) records.now)) list.old }
 {
+    // How many so far, and so where the next one goes.
     let mut count = 0;
-    let mut i = 0;
-    while i < n {
-        let o = records[i];
+    for o in records {
         if is_active(o) {
-            let origin = o.origin;
-            list[count] = origin.global_id;
+            list[count] = o.origin.global_id;
             count += 1;
         }
-        i += 1;
     }
     count
 }

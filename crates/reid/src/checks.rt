@@ -1,38 +1,39 @@
 // Rules 10, 11 and 60: the refusals of step 3 in their order, and who meets whom.
-ghost use Rattle.std.specs.Prelude.{◌≡◌, cond, ◌≤◌, ◌*◌};
-ghost use Rattle.table.specs.Refusals.{first_due};
+ghost use Rattle.std.specs.Prelude.{◌≡◌, cond};
+ghost use Rattle.table.specs.Refusals.{first_due, checked};
 ghost use Rattle.reid.specs.Step.{reid_checks};
 
 use parts::TrackerConfig;
-use table::{Phase, Table, making, refusals};
+use table::refusals::Refusal;
+use table::{Phase, Table, making};
 
 // The candidates that meet the old ones: none if no ReID distance is declared.
 pub fn candidates_met(config: TrackerConfig, candidates: usize) -> usize
     ensures { result ≡ cond config.has_reid_distance candidates 0 }
 {
     if config.has_reid_distance {
-        return candidates;
+        candidates
+    } else {
+        0
     }
-    0
 }
 
 // The first refusal of step 3.
-pub fn reid_refusal(t: Table, floats: usize, distances: usize, places: usize) -> u32
-    ensures { result ≡ first_due (reid_checks t floats distances places) }
+#[tactic(auto, using(table::proofs::Due::after_step), unfolding(table::specs::Refusals::first_due))]
+pub fn reid_refusal(
+    t: &Table,
+    floats: usize,
+    distances: usize,
+    places: usize,
+) -> Result<(), Refusal>
+    ensures { result ≡ checked (first_due (reid_checks t.now floats distances places)) }
 {
-    let config = t.config;
-    let lists = t.lists;
-    let candidates = lists.candidates;
-    let old = lists.old;
-    let first = making::step_refusal(t, floats, Phase::Reid);
-    if first != 0 {
-        return first;
+    making::step_refusal(t, floats, Phase::Reid)?;
+    if distances != candidates_met(t.config, t.lists.candidates.count) * t.lists.old.count {
+        return Err(Refusal::Lengths);
     }
-    if distances != candidates_met(config, candidates.count) * old.count {
-        return refusals::LENGTHS;
+    if places < t.config.capacity {
+        return Err(Refusal::OutputShort);
     }
-    if places < config.capacity {
-        return refusals::OUTPUT_SHORT;
-    }
-    0
+    Ok(())
 }

@@ -1,9 +1,10 @@
 -- Rule 14 as facts: what the tests of a whole table say, in numbers.
+use Rattle.std.specs.Prelude.{Option, Some, None}
 use mathlib.Core.Path.{◌≡◌, refl}
 use mathlib.Core.Bool.{true, false, not}
 use mathlib.Core.List.{List, [], ◌∷◌}
 use Prim.Native.Nat.{ℕ, ◌+◌, ◌*◌, ◌<◌, ◌≤◌}
-use native.Mathlib.Nat.{le_trans, mul-le-mul_right}
+use native.Mathlib.Nat.{le_trans, mul-le-mul, mul-le-mul_right}
 use native.Mathlib.Omega.{arith}
 use borrow.Author.Tests.{leb-true, ltb-false, eqb-true, not-true, not-false}
 use lib.Dec.{leb, ltb, eqb}
@@ -11,16 +12,14 @@ use lib.IntN.{ℤ, pos, negsuc}
 use lib.ListN.{length, take, get_or}
 use lib.Signed.{mag, le_z}
 use Rattle.laws.specs.Lists.{holds}
-use Rattle.parts.specs.declared.ReidCounter.{ReidCounter}
-use Rattle.parts.specs.declared.ReidCounter.TheVariants.{Absent, Present}
 use Rattle.parts.specs.declared.TrackedObject.{TrackedObject}
 use Rattle.parts.specs.declared.TrackerConfig.{TrackerConfig}
 use Rattle.parts.specs.Layout.{block_size}
-use Rattle.parts.specs.Ranges.{Sizes, ReidInRange, PointsInRange, unaged, ObjectInRange}
-use Rattle.parts.proofs.Bounds.{coords-most, width-most, history_most}
+use Rattle.parts.specs.Ranges.{Sizes, AgeInRange, ReidInRange, PointsInRange, unaged, ObjectInRange}
+use Rattle.parts.proofs.Bounds.{block_most}
 use Rattle.table.specs.declared.Counts.{Counts}
 use Rattle.table.specs.declared.Table.{Table}
-use Rattle.table.specs.Ranges.{between, signed_between, reid_between, settings_in_range, delay_negative, delay_too_long}
+use Rattle.table.specs.Ranges.{between, signed_between, optional_between, settings_in_range, delay_negative, delay_too_long}
 use Rattle.table.specs.Refusals.{storage_need}
 use Rattle.table.specs.Wholeness.{settings_whole, counts_whole, points_whole, ages_whole, record_whole, records_whole, names_below, places_whole, list_whole, candidates_whole, lists_whole, whole_table}
 use Rattle.table.proofs.Chain.{parts}
@@ -47,7 +46,7 @@ pub record SettingsFacts (c : TrackerConfig) : Type 0 where
   pub history : c.past_detections_length ≤ 8
   pub maximum : le_z c.hit_counter_max (pos 10000) ≡ true
   pub pointwise : c.pointwise_hit_counter_max ≤ 10000
-  pub reid : reid_between (pos 0) c.reid_hit_counter_max (pos 10000) ≡ true
+  pub reid : optional_between (pos 0) c.reid_hit_counter_max (pos 10000) ≡ true
 
 pub settings_facts : (c : TrackerConfig) → settings_in_range c ≡ true → SettingsFacts c
 unfolding settings_in_range
@@ -59,7 +58,7 @@ settings_facts c h =
     ∷ leb c.past_detections_length 8
     ∷ le_z c.hit_counter_max (pos 10000)
     ∷ leb c.pointwise_hit_counter_max 10000
-    ∷ reid_between (pos 0) c.reid_hit_counter_max (pos 10000)
+    ∷ optional_between (pos 0) c.reid_hit_counter_max (pos 10000)
     ∷ []
     ) h
     in
@@ -92,8 +91,9 @@ sizes_of c h =
       pointwise_most = f.pointwise;
     }
 
-pub block_most : (c : TrackerConfig) → Sizes c → block_size c ≤ 864
-block_most c h = omega (arith, coords-most c h, width-most c h, history_most c h)
+-- the storage that settings ask for is at most 64 blocks
+pub need_most : (c : TrackerConfig) → settings_in_range c ≡ true → c.capacity * block_size c ≤ 55296
+need_most c h = mul-le-mul (settings_facts c h).capacity.1 (block_most c (sizes_of c h))
 
 -- a storage of the need holds the blocks of as many records as there is room for
 pub blocks_fit : (c : TrackerConfig) {n floats : ℕ} → n ≤ c.capacity → storage_need c ≤ floats → n * block_size c ≤ floats
@@ -133,25 +133,33 @@ counts_facts c n h =
       initializing = eqb-true _ _ p.1.1.1.1.1;
     }
 
+-- what the first two tests of a table tell the third; the first part says nothing: it shows `grind` the call to match
+pub records_room : (c : TrackerConfig) (n : Counts) → settings_whole c ≡ true → counts_whole c n ≡ true
+    → (counts_whole c n ≡ counts_whole c n) × (n.records ≤ 64) × (n.frames ≤ 200000000) × (c.points ≤ 16) × (c.past_detections_length ≤ 8)
+records_room c n s h =
+    let f = settings_facts c (settings_whole_lem c s).0 in
+    let k = counts_facts c n h in
+    (refl, omega (arith, f.capacity, k.records), k.frames, f.points.1, f.history)
+
 -- ---- a record
 
 pub record RecordFacts (c : TrackerConfig) (frames : ℕ) (o : TrackedObject) : Type 0 where
   pub age : o.life.age ≤ frames
   pub hit_counter : signed_between (negsuc 19999) o.life.hit_counter (pos 20000) ≡ true
   pub counters : PointsInRange c.points o.point_hit_counter
-  pub reid : reid_between (negsuc 0) o.life.reid_hit_counter (pos 10000) ≡ true
+  pub reid : optional_between (negsuc 0) o.life.reid_hit_counter (pos 10000) ≡ true
   pub period : (1 ≤ o.origin.initial_period) × (o.origin.initial_period ≤ 1000)
   pub history : o.past_count ≤ c.past_detections_length
-  pub ages : (i : ℕ) → i < o.past_count → signed_between (negsuc 0) (get_or o.past i unaged).age (pos frames) ≡ true
+  pub ages : (i : ℕ) → i < o.past_count → optional_between (pos 0) (get_or o.past i unaged).age (pos frames) ≡ true
 
 pub record_facts : (c : TrackerConfig) (frames : ℕ) (o : TrackedObject) → record_whole c frames o ≡ true → RecordFacts c frames o
-unfolding record_whole points_whole ages_whole
+unfolding record_whole points_whole ages_whole optional_between
 record_facts c frames o h =
     let p =
     parts (leb o.life.age frames) (
     signed_between (negsuc 19999) o.life.hit_counter (pos 20000)
     ∷ points_whole c.points o.point_hit_counter
-    ∷ reid_between (negsuc 0) o.life.reid_hit_counter (pos 10000)
+    ∷ optional_between (negsuc 0) o.life.reid_hit_counter (pos 10000)
     ∷ between 1 o.origin.initial_period 1000
     ∷ leb o.past_count c.past_detections_length
     ∷ ages_whole o.past_count (pos frames) o.past
@@ -168,13 +176,19 @@ record_facts c frames o h =
       ages =
           λ i lt.
           not-false _
-          (none_found (λ e. not (signed_between (negsuc 0) e.age (pos frames))) _ o.past unaged p.1.1.1.1.1.1 i lt (λ _. refl));
+          (none_found (λ e. not (optional_between (pos 0) e.age (pos frames))) _ o.past unaged p.1.1.1.1.1.1 i lt (λ _. refl));
     }
 
-reid_in_range : (r : ReidCounter) → reid_between (negsuc 0) r (pos 10000) ≡ true → ReidInRange r
-unfolding reid_between
-reid_in_range Absent h = tt
-reid_in_range (Present z) h = mag_between 0 10000 10000 z h (omega arith) (omega arith)
+reid_in_range : (r : Option ℤ) → optional_between (negsuc 0) r (pos 10000) ≡ true → ReidInRange r
+unfolding optional_between
+reid_in_range None h = tt
+reid_in_range (Some z) h = mag_between 0 10000 10000 z h (omega arith) (omega arith)
+
+age_in_range : (frames : ℕ) (age : Option ℤ) → optional_between (pos 0) age (pos frames) ≡ true → frames ≤ 200000000 → AgeInRange age
+unfolding optional_between
+age_in_range frames None h few = tt
+age_in_range frames (Some (pos a)) h few = omega (arith, leb-true a frames (parts (leb 0 a) (leb a frames ∷ []) h).1)
+age_in_range frames (Some (negsuc a)) h few = cc
 
 pub object_in_range : (c : TrackerConfig) (frames : ℕ) (o : TrackedObject) → RecordFacts c frames o → frames ≤ 200000000 → ObjectInRange c o
 object_in_range c frames o f few =
@@ -187,7 +201,7 @@ object_in_range c frames o f few =
           };
       counters = f.counters;
       history = f.history;
-      ages = λ i lt. mag_between 0 frames 200000000 (get_or o.past i unaged).age (f.ages i lt) (omega arith) few;
+      ages = λ i lt. age_in_range frames (get_or o.past i unaged).age (f.ages i lt) few;
       period = f.period.1;
     }
 

@@ -1,10 +1,11 @@
 -- The slots at the places that pass a test move down in order, each record with its block, behind those kept before it.
-use mathlib.Core.Path.{◌≡◌, sym, ◌∙◌}
+use mathlib.Core.Path.{◌≡◌, refl, sym, ◌∙◌}
 use mathlib.Core.Bool.{Bool, true, false}
-use mathlib.Core.List.{List, [], ◌∷◌, ◌++◌, map, map-append}
-use Prim.Native.Nat.{ℕ, suc, ◌+◌, ◌*◌, ◌<◌, ◌≤◌}
-use native.Mathlib.Nat.{mul-le-mul_right, le_trans}
+use mathlib.Core.List.{List, [], ◌∷◌, ◌++◌, map-append}
+use Prim.Native.Nat.{ℕ, ◌+◌, ◌*◌, ◌<◌, ◌≤◌}
+use native.Mathlib.Nat.{zero-mul, mul-le-mul_right, le_trans}
 use native.Mathlib.Omega.{arith}
+use native.Mathlib.Numerals.{add-one}
 use lib.Ieee.{Float}
 use lib.ListN.{length, get_or, set, drop, length-map}
 use lib.Seq.{paste, take-take}
@@ -13,24 +14,14 @@ use Rattle.laws.proofs.Every.{every_map, every_keep, every_below}
 use Rattle.laws.proofs.Growing.{length_snoc, joins, stays_out, at_most}
 use Rattle.laws.proofs.Pasting.{length_part}
 use Rattle.parts.specs.declared.TrackedObject.{TrackedObject}
+use Rattle.table.specs.declared.Kept.{Kept}
 use Rattle.table.specs.Making.{zero_object}
-use Rattle.table.specs.Slots.{Slot, records_back, floats_back}
+use Rattle.table.specs.Slots.{Slot, slots_where, kept_back, blocks_of, floats_back}
 use Rattle.table.proofs.SlotLaws.{Sized, slot_at, block_fits, block_whole, records_put, floats_length, floats_put, floats_behind}
-
--- what a turn that keeps record i leans on: where it and its block go, and that the block lies in the floats
-pub record Room (size : ℕ) (s f : List Float) (i k : ℕ) : Type 0 where
-  pub few : k ≤ i
-  pub down : k * size ≤ i * size
-  pub fits : i * size + size ≤ length s
-  pub long : length f ≡ length s
-
--- the room that a contract asks for, by the size that the code computed
-pub by_size : {size b : ℕ} (n floats : ℕ) → size ≡ b → n * b ≤ floats → n * size ≤ floats
-by_size n floats e h = rw e h
 
 module _ (p : ℕ → Bool) (b : ℕ) (records : List TrackedObject) (s : List Float) (i : ℕ) where
   abbrev pub moved_down : List Slot
-  moved_down = map (slot_at b records s) (keep p (below i))
+  moved_down = slots_where p b records s i
 
   pub moved_most : length moved_down ≤ i
   moved_most = rw (length-map (keep p (below i)) (slot_at b records s)) (at_most p i)
@@ -41,47 +32,65 @@ module _ (p : ℕ → Bool) (b : ℕ) (records : List TrackedObject) (s : List F
   pub moved_length : i * b ≤ length s → length (floats_back b moved_down s) ≡ length s
   moved_length h = floats_length (moved_sized h) s (le_trans (mul-le-mul_right b moved_most) h)
 
-  pub room : {n k : ℕ} {f : List Float} → i < n → n * b ≤ length s → k ≡ length moved_down → f ≡ floats_back b moved_down s → Room b s f i k
-  room {n = n} h whole count floats =
-      let fits = le_trans (block_fits b i n h) whole in
-      record {
-        few = rw count moved_most;
-        down = rw count (mul-le-mul_right b moved_most);
-        fits = fits;
-        long = rw floats (moved_length (omega arith));
-      }
-
-module _ (p : ℕ → Bool) (b : ℕ) (records : List TrackedObject) (s : List Float) (i : ℕ) where
-  abbrev ahead : List Slot
-  ahead = moved_down p b records s i
-
-  pub leaves : p i ≡ false → moved_down p b records s (suc i) ≡ ahead
+  none_more : p i ≡ false → slots_where p b records s (i + 1) ≡ moved_down
   unfolding below
-  leaves e = rw (stays_out p (below i) i e)
+  none_more e = rw (add-one i, stays_out p (below i) i e)
 
-  module _ (e : p i ≡ true) where
-    moves : moved_down p b records s (suc i) ≡ ahead ++ (slot_at b records s i ∷ [])
-    unfolding below
-    moves = rw (joins p (below i) i e) (map-append (slot_at b records s) (keep p (below i)) (i ∷ []))
+  one_more : p i ≡ true → slots_where p b records s (i + 1) ≡ moved_down ++ (slot_at b records s i ∷ [])
+  unfolding below
+  one_more e = rw (add-one i, joins p (below i) i e) (map-append (slot_at b records s) (keep p (below i)) (i ∷ []))
 
-    pub one_more : length (moved_down p b records s (suc i)) ≡ suc (length ahead)
-    one_more = rw moves (length_snoc ahead (slot_at b records s i))
+-- after i turns: in front stand the slots of the first i places that pass, and behind them what was there
+pub record Moved (p : ℕ → Bool) (b : ℕ) (records : List TrackedObject) (s : List Float) (i : ℕ) (kept : Kept) (f : List Float) : Type 0 where
+  pub few : kept.count ≤ i
+  pub objects : kept ≡ kept_back (slots_where p b records s i) records
+  pub blocks : f ≡ floats_back b (slots_where p b records s i) s
 
-    pub record_moved : {k : ℕ} {kept : List TrackedObject} {o : TrackedObject} → i < length records → k ≡ length ahead
-        → kept ≡ records_back ahead records
-        → o ≡ get_or records i zero_object
-        → set kept k o ≡ records_back (moved_down p b records s (suc i)) records
-    record_moved h count held same =
-        rw (count, held, same, moves) (sym (records_put ahead records (slot_at b records s i) (omega (arith, moved_most p b records s i))))
+pub none_moved : (p : ℕ → Bool) (b : ℕ) (records : List TrackedObject) (s : List Float) → Moved p b records s 0 (record { records = records; count = 0 }) s
+unfolding below keep blocks_of
+none_moved p b records s = record { few = omega arith; objects = refl; blocks = rw zero-mul }
 
-    -- the block is still where it was: those before it went no further up
-    pub block_moved : {k : ℕ} {f g : List Float} → Room b s f i k → k ≡ length ahead → f ≡ floats_back b ahead s
-        → g ≡ paste f (k * b) (drop (i * b) f) b
-        → g ≡ floats_back b (moved_down p b records s (suc i)) s
-    block_moved room count held moved =
-        let sized = moved_sized p b records s i (omega (arith, room.fits)) in
-        let long = length_part s (i * b) b room.fits in
+-- by the size that the code computed
+pub block_fits_in : (s : List Float) (i : ℕ) {b n size : ℕ} → b ≡ size → n * size ≤ length s → i < n → i * b + b ≤ length s
+block_fits_in s i {b} {n} e enough h = le_trans (block_fits b i n h) (rw e enough)
+
+module _ {p : ℕ → Bool} {b : ℕ} {records : List TrackedObject} {s : List Float} {i : ℕ} {kept : Kept} {f : List Float} (m : Moved p b records s i kept f) where
+  -- where the block at i goes, and that it lies in the floats
+  pub moves_down : {n size : ℕ} → b ≡ size → n * size ≤ length s → i < n → (kept.count * b ≤ i * b) × (i * b + b ≤ length f)
+  moves_down e enough h =
+      let fits = block_fits_in s i e enough h in
+      (mul-le-mul_right b m.few, rw (m.blocks, moved_length p b records s i (omega arith)) fits)
+
+  -- the record at i leaves
+  pub leaves : p i ≡ false → Moved p b records s (i + 1) kept f
+  leaves e =
+      let same = none_more p b records s i e in
+      record { few = omega (arith, m.few); objects = rw same m.objects; blocks = rw same m.blocks }
+
+  -- it stays: its block is still where it was, since those before it went no further up
+  module _ (e : p i ≡ true) (fits : i * b + b ≤ length s) where
+    l : List Slot
+    l = slots_where p b records s i
+
+    y : Slot
+    y = slot_at b records s i
+
+    record_stays : {o : TrackedObject} → i < length records → o ≡ get_or records i zero_object
+        → record { records = set kept.records kept.count o; count = kept.count + 1 } ≡ kept_back (slots_where p b records s (i + 1)) records
+    unfolding l y
+    record_stays h same =
+        rw (m.objects, same, one_more p b records s i e, records_put l records y (omega (arith, moved_most p b records s i)), length_snoc l y, add-one (length l))
+
+    block_stays : {g : List Float} → g ≡ paste f (kept.count * b) (drop (i * b) f) b → g ≡ floats_back b (slots_where p b records s (i + 1)) s
+    unfolding l y
+    block_stays moved =
+        let sized = moved_sized p b records s i (omega arith) in
         let read = floats_behind sized s (i * b) (mul-le-mul_right b (moved_most p b records s i)) in
         moved
-        ∙ rw (count, held, read, moves)
-        (sym (floats_put sized s (slot_at b records s i) long ∙ rw (take-take b b (drop (i * b) s) (omega arith))))
+        ∙ rw (m.objects, m.blocks, read, one_more p b records s i e)
+        (sym (floats_put sized s y (length_part s (i * b) b fits) ∙ rw (take-take b b (drop (i * b) s) (omega arith))))
+
+    pub stays : {o : TrackedObject} {g : List Float} → i < length records → o ≡ get_or records i zero_object
+        → g ≡ paste f (kept.count * b) (drop (i * b) f) b
+        → Moved p b records s (i + 1) (record { records = set kept.records kept.count o; count = kept.count + 1 }) g
+    stays h same moved = record { few = omega (arith, m.few); objects = record_stays h same; blocks = block_stays moved }

@@ -7,7 +7,8 @@ use native.Mathlib.Omega.{arith}
 use native.Mathlib.Numerals.{add-one}
 use borrow.Author.Tests.{ltb-true, lt-ltb, le-ltb, not-true}
 use lib.Dec.{ltb}
-use lib.ListN.{take, get_or}
+use lib.ListN.{length, take, get_or}
+use lib.Seq.{length-take-le, get_or-take, take-take}
 use Rattle.laws.specs.Lists.{holds}
 use Rattle.table.specs.Wholeness.{names_below}
 use Rattle.table.proofs.Chain.{parts}
@@ -56,3 +57,13 @@ module _ (limit : ℕ) (l : List ℕ) where
   name_facts n h i lt =
       let p = parts (names_below limit i l) (ltb (get_or l i 0) limit ∷ not (holds (get_or l i 0) (take i l)) ∷ []) (begins (suc i) n lt h) in
       (ltb-true _ _ p.1.0, not-true _ p.1.1)
+
+-- the front of an array: nothing behind it matters
+module _ (limit n : ℕ) (l : List ℕ) where
+  among : (m : ℕ) → m ≤ n → names_below limit m (take n l) ≡ names_below limit m l
+  unfolding names_below
+  among zero h = refl
+  among (suc m) h = rw (among m (omega arith), get_or-take n l m 0 h, take-take m n l (omega arith))
+
+  pub named_front : n ≤ length l → names_below limit (length (take n l)) (take n l) ≡ names_below limit n l
+  named_front h = rw (length-take-le n l h) (among n (omega arith))

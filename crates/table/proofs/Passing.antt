@@ -1,33 +1,71 @@
--- A loop that returns false at the first element that a test finds among the first n: what is left to look at decides.
-use mathlib.Core.Path.{◌≡◌, refl, sym, ◌∙◌}
-use mathlib.Core.Bool.{Bool, true, false, not, ◌||◌}
+-- Tests of every element: what std's `all` answers in the words of the definitions, and what a list that passes tells of each element.
+use mathlib.Core.Path.{◌≡◌, refl, sym}
+use mathlib.Core.Bool.{Bool, true, false, not, ◌||◌, ◌&&◌}
 use mathlib.Core.List.{List, [], ◌∷◌}
-use Prim.Native.Nat.{ℕ, zero, suc, ◌+◌, ◌<◌, ◌≤◌}
+use Prim.Native.Nat.{ℕ, zero, suc, ◌<◌, ◌≤◌}
 use native.Mathlib.Omega.{arith}
-use native.Mathlib.Numerals.{add-one}
-use lib.ListN.{length, take, drop, get_or}
-use lib.Seq.{length-take-le, get_or-take}
+use lib.Dec.{leb, ltb}
+use lib.IntN.{ℤ, pos}
+use lib.ListN.{length, take, get_or}
+use lib.Seq.{take_all}
+use Rattle.std.specs.List.{list_all}
+use Rattle.std.proofs.lemmas.Bool.Decides.{nat_tests}
 use Rattle.laws.specs.Lists.{any}
-use Rattle.laws.proofs.Search.{any_here, any_on, any_end}
+use Rattle.parts.specs.declared.PastDetection.{PastDetection}
+use Rattle.parts.specs.declared.TrackedObject.{TrackedObject}
+use Rattle.parts.specs.declared.TrackerConfig.{TrackerConfig}
+use Rattle.table.specs.Ranges.{optional_between}
+use Rattle.table.specs.Wholeness.{points_whole, ages_whole, record_whole, records_whole}
 
--- the elements before i are passed
-abbrev pub Passed : {A : Type 0} → (A → Bool) → ℕ → List A → ℕ → Type 0
-Passed bad n l i = any bad (take n l) ≡ any bad (drop i (take n l))
+not_or : (a b : Bool) → not (a || b) ≡ (not a && not b)
+not_or true b = refl
+not_or false b = refl
 
-module _ {A : Type 0} (bad : A → Bool) (n : ℕ) (l : List A) (i : ℕ) (room : n ≤ length l) (p : Passed bad n l i) where
-  found_at : (d : A) → i < n → bad (get_or l i d) ≡ bad (get_or (take n l) i d)
-  found_at d h = rw (get_or-take n l i d h)
+not_not : (a : Bool) → a ≡ not (not a)
+not_not true = refl
+not_not false = refl
 
-  pub stops : (d : A) → i < n → bad (get_or l i d) ≡ true → false ≡ not (any bad (take n l))
-  stops d h e =
-      rw (p, any_here bad (take n l) i d (omega (arith, length-take-le n l room)) (sym (found_at d h) ∙ e))
+-- where the test and its opposite go together
+all_is : {A : Type 0} (p bad : A → Bool) → ((x : A) → p x ≡ not (bad x)) → (l : List A) → list_all p l ≡ not (any bad (take (length l) l))
+unfolding any
+all_is p bad e [] = refl
+all_is p bad e (x ∷ l) = rw (e x, all_is p bad e l, not_or (bad x) (any bad (take (length l) l)))
 
-  pub passes : (d : A) → i < n → bad (get_or l i d) ≡ false → Passed bad n l (i + 1)
-  passes d h e =
-      rw add-one (p ∙ any_on bad (take n l) i d (omega (arith, length-take-le n l room)) (sym (found_at d h) ∙ e))
+at_most : (x : ℕ) → leb x 10000 ≡ not (ltb 10000 x)
+at_most x = grind (arith, nat_tests)
 
-  pub ends : n ≤ i → true ≡ not (any bad (take n l))
-  ends h = rw (p, any_end bad (take n l) i (omega (arith, length-take-le n l room)))
+pub points_all : (l : List ℕ) → list_all (λ x. leb x 10000) l ≡ points_whole (length l) l
+unfolding points_whole
+points_all l = all_is (λ x. leb x 10000) (λ x. ltb 10000 x) at_most l
+
+pub ages_all : (frames : ℤ) (l : List PastDetection) → list_all (λ e. optional_between (pos 0) e.age frames) l ≡ ages_whole (length l) frames l
+unfolding ages_whole
+ages_all frames l =
+    all_is (λ e. optional_between (pos 0) e.age frames) (λ e. not (optional_between (pos 0) e.age frames)) (λ e. not_not _) l
+
+pub records_all : (c : TrackerConfig) (frames : ℕ) (l : List TrackedObject) → list_all (record_whole c frames) l ≡ records_whole c frames (length l) l
+unfolding records_whole
+records_all c frames l = all_is (record_whole c frames) (λ o. not (record_whole c frames o)) (λ o. not_not _) l
+
+-- ---- the front of an array
+
+whole : {A : Type 0} (l : List A) → take (length l) l ≡ l
+whole l = take_all (length l) l (omega arith)
+
+pub points_front : (n : ℕ) (l : List ℕ) → points_whole (length (take n l)) (take n l) ≡ points_whole n l
+unfolding points_whole
+points_front n l = rw (whole (take n l))
+
+pub ages_front : (n : ℕ) (frames : ℤ) (l : List PastDetection) → ages_whole (length (take n l)) frames (take n l) ≡ ages_whole n frames l
+unfolding ages_whole
+ages_front n frames l = rw (whole (take n l))
+
+pub records_front : (c : TrackerConfig) (frames n : ℕ) (l : List TrackedObject)
+    → records_whole c frames (length (take n l)) (take n l) ≡ records_whole c frames n l
+unfolding records_whole
+records_front c frames n l = rw (whole (take n l))
+
+-- ---- what a list that passes tells
 
 neither : (a b : Bool) → not (a || b) ≡ true → (a ≡ false) × (not b ≡ true)
 neither true b h = (sym h, cc)

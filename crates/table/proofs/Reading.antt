@@ -1,4 +1,5 @@
 -- A record read out of the table's array: the code's default is another one, and not met. And what the machine tells of every record there.
+use Rattle.std.specs.Prelude.{None}
 use mathlib.Core.Path.{◌≡◌}
 use mathlib.Core.Bool.{false}
 use mathlib.Core.List.{List, [], ◌∷◌}
@@ -14,9 +15,6 @@ use denote.Struct.Declared.{row}
 use Rattle.laws.proofs.Elements.{get_or-any}
 use Rattle.laws.specs.Every.{Every, none, one}
 use Rattle.parts.specs.declared.TrackedObject.{TrackedObject}
-use Rattle.parts.specs.declared.ReidCounter.TheVariants.{Absent}
-use Rattle.parts.specs.declared.PermanentId.TheVariants.{Unissued}
-use Rattle.parts.specs.declared.LastDistance.TheVariants.{Never}
 use Rattle.parts.specs.contracts.TrackedObject.{the_type}
 use Rattle.table.specs.Making.{zero_object}
 
@@ -27,8 +25,8 @@ blank =
       past_count = 0;
       point_hit_counter = [];
       detected_at_least_once_points = 0;
-      last = record { distance = Never; has_scores = false };
-      life = record { age = 0; hit_counter = pos 0; reid_hit_counter = Absent; is_initializing = false; id = Unissued };
+      last = record { distance = None; has_scores = false };
+      life = record { age = 0; hit_counter = pos 0; reid_hit_counter = None; is_initializing = false; id = None };
       origin = record { global_id = 0; initializing_id = 0; initial_period = 0 };
     }
 

@@ -1,18 +1,15 @@
 -- Rules 12, 20 and 21: the delay's rule, the table of zeros, a fresh table, and what making answers.
-use Rattle.std.specs.Prelude.{false, cond, List, ℕ, zero, suc, eqb, ℤ, pos, negsuc, length, replicate}
+use Rattle.std.specs.Prelude.{false, cond, List, ℕ, zero, suc, ℤ, pos, negsuc, replicate, None, Some, Option, is_none}
 use Rattle.std.specs.Int.Signed.{quot_z}
 use Rattle.laws.specs.Float64.{f0}
-use Rattle.laws.specs.Lists.{padded}
 use Rattle.matching.specs.declared.Numbers.{Numbers}
+use Rattle.matching.specs.Unmatched.{numbers_in}
 use Rattle.parts.specs.declared.TrackerConfig.{TrackerConfig}
 use Rattle.parts.specs.declared.TrackedObject.{TrackedObject}
-use Rattle.parts.specs.declared.ReidCounter.TheVariants.{Absent}
-use Rattle.parts.specs.declared.PermanentId.TheVariants.{Unissued}
-use Rattle.parts.specs.declared.LastDistance.TheVariants.{Never}
-use Rattle.table.specs.declared.Candidates.{Candidates}
 use Rattle.table.specs.declared.Counts.{Counts}
 use Rattle.table.specs.declared.Lists.{Lists}
 use Rattle.table.specs.declared.Phase.TheVariants.{Predict}
+use Rattle.table.specs.declared.refusals.Refusal.{Refusal}
 use Rattle.table.specs.declared.Table.{Table}
 use Rattle.table.specs.declared.Answer.{Answer}
 use Rattle.table.specs.Refusals.{first_due, making_checks}
@@ -53,7 +50,7 @@ zero_config =
       hit_counter_max = pos 0;
       initialization_delay = pos 0;
       pointwise_hit_counter_max = 0;
-      reid_hit_counter_max = Absent;
+      reid_hit_counter_max = None;
       distance_threshold = f0;
       detection_threshold = f0;
       reid_distance_threshold = f0;
@@ -64,32 +61,35 @@ zero_config =
 abbrev pub zero_object : TrackedObject
 zero_object =
     record {
-      past = replicate 8 (record { age = pos 0; has_scores = false });
+      past = replicate 8 (record { age = Some (pos 0); has_scores = false });
       past_count = 0;
       point_hit_counter = replicate 16 0;
       detected_at_least_once_points = 0;
-      last = record { distance = Never; has_scores = false };
+      last = record { distance = None; has_scores = false };
       life =
           record {
             age = 0;
             hit_counter = pos 0;
-            reid_hit_counter = Absent;
+            reid_hit_counter = None;
             is_initializing = false;
-            id = Unissued;
+            id = None;
           };
       origin = record { global_id = 0; initializing_id = 0; initial_period = 0 };
     }
 
--- a list of nothing
-abbrev pub no_numbers : Numbers
-no_numbers = record { at = replicate 64 0; count = 0 }
+-- a list of nothing, in n places
+abbrev pub nothing : (n : ℕ) → Numbers n
+nothing n = record { at = replicate n 0; count = 0 }
+
+abbrev pub no_numbers : Numbers 64
+no_numbers = nothing 64
 
 -- the candidates in order, 0 behind the last
-abbrev pub candidates_of : List ℕ → Candidates
-candidates_of l = record { at = padded 32 l; count = length l }
+abbrev pub candidates_of : List ℕ → Numbers 32
+candidates_of l = numbers_in 32 l
 
-abbrev pub no_candidates : Candidates
-no_candidates = record { at = replicate 32 0; count = 0 }
+abbrev pub no_candidates : Numbers 32
+no_candidates = nothing 32
 
 abbrev pub no_lists : Lists
 no_lists = record { alive = no_numbers; initializing = no_numbers; dead = no_numbers; old = no_numbers; candidates = no_candidates }
@@ -114,10 +114,10 @@ abbrev pub fresh_table : TrackerConfig → Table
 fresh_table c = empty_table c fresh_counts
 
 -- a refused making returns a table of zeros
-abbrev pub answer_of : ℕ → Table → Answer
+abbrev pub answer_of : Option Refusal → Table → Answer
 answer_of refusal t = record { refusal = refusal; count = 0; table = t }
 
 unfoldable pub made : TrackerConfig → ℕ → Answer
 made c floats =
     let n = first_due (making_checks (settled c) floats) in
-    answer_of n (cond (eqb n 0) (fresh_table (settled c)) zero_table)
+    answer_of n (cond (is_none n) (fresh_table (settled c)) zero_table)

@@ -1,9 +1,7 @@
 -- Rule 3: the sizes.
-use Rattle.std.specs.Prelude.{Bool, true, ◌&&◌, ℕ, leb, ℤ, pos}
+use Rattle.std.specs.Prelude.{Bool, true, ◌&&◌, ℕ, leb, ℤ, pos, Option, Some, None}
 use Rattle.std.specs.Int.Signed.{le_z, lt_z}
 use Rattle.parts.specs.declared.TrackerConfig.{TrackerConfig}
-use Rattle.parts.specs.declared.ReidCounter.{ReidCounter}
-use Rattle.parts.specs.declared.ReidCounter.TheVariants.{Absent, Present}
 
 abbrev pub between : ℕ → ℕ → ℕ → Bool
 between low x high = leb low x && leb x high
@@ -12,9 +10,9 @@ abbrev pub signed_between : ℤ → ℤ → ℤ → Bool
 signed_between low z high = le_z low z && le_z z high
 
 -- absent, or in the range
-unfoldable pub reid_between : ℤ → ReidCounter → ℤ → Bool
-reid_between low Absent high = true
-reid_between low (Present z) high = signed_between low z high
+unfoldable pub optional_between : ℤ → Option ℤ → ℤ → Bool
+optional_between low None high = true
+optional_between low (Some z) high = signed_between low z high
 
 -- the delay is below 0
 abbrev pub delay_negative : TrackerConfig → Bool
@@ -34,4 +32,4 @@ settings_in_range c =
     && (leb c.past_detections_length 8
     && (le_z c.hit_counter_max (pos 10000)
     && (leb c.pointwise_hit_counter_max 10000
-    && reid_between (pos 0) c.reid_hit_counter_max (pos 10000))))))
+    && optional_between (pos 0) c.reid_hit_counter_max (pos 10000))))))

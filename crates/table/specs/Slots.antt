@@ -1,10 +1,11 @@
 -- The model of a table and its floats: a list of slots, each a record and its block.
-use Rattle.std.specs.Prelude.{List, [], ◌∷◌, ◌++◌, map, ℕ, zero, suc, ◌*◌, ◌<◌, length, get_or, take, drop, Float}
-use Rattle.laws.specs.Lists.{keep}
+use Rattle.std.specs.Prelude.{Bool, List, [], ◌∷◌, ◌++◌, map, ℕ, zero, suc, ◌*◌, ◌<◌, length, get_or, take, drop, Float}
+use Rattle.laws.specs.Lists.{below, keep}
 use Rattle.parts.specs.declared.TrackerConfig.{TrackerConfig}
 use Rattle.parts.specs.declared.TrackedObject.{TrackedObject}
 use Rattle.parts.specs.Layout.{block_size}
 use Rattle.parts.specs.Ranges.{ObjectInRange}
+use Rattle.table.specs.declared.Kept.{Kept}
 use Rattle.table.specs.declared.Table.{Table}
 use Rattle.table.specs.Making.{zero_object}
 
@@ -34,6 +35,14 @@ records_back l records = objects_of l ++ drop (length l) records
 
 abbrev pub floats_back : ℕ → List Slot → List Float → List Float
 floats_back b l floats = blocks_of l ++ drop (length l * b) floats
+
+-- those of the first n at whose places a test holds, in order; and put back with how many they are
+abbrev pub slots_where : (ℕ → Bool) → ℕ → List TrackedObject → List Float → ℕ → List Slot
+slots_where p b records floats n =
+    map (λ i. record { object = get_or records i zero_object; block = take b (drop (i * b) floats) }) (keep p (below n))
+
+abbrev pub kept_back : List Slot → List TrackedObject → Kept
+kept_back l records = record { records = records_back l records; count = length l }
 
 -- the slots of a table
 abbrev pub table_slots : Table → List Float → List Slot

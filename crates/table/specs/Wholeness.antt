@@ -5,11 +5,10 @@ use Rattle.matching.specs.declared.Numbers.{Numbers}
 use Rattle.parts.specs.declared.TrackerConfig.{TrackerConfig}
 use Rattle.parts.specs.declared.TrackedObject.{TrackedObject}
 use Rattle.parts.specs.declared.PastDetection.{PastDetection}
-use Rattle.table.specs.declared.Candidates.{Candidates}
 use Rattle.table.specs.declared.Counts.{Counts}
 use Rattle.table.specs.declared.Lists.{Lists}
 use Rattle.table.specs.declared.Table.{Table}
-use Rattle.table.specs.Ranges.{between, signed_between, reid_between, delay_negative, delay_too_long, settings_in_range}
+use Rattle.table.specs.Ranges.{between, signed_between, optional_between, delay_negative, delay_too_long, settings_in_range}
 
 -- its settings are in range, and the delay lies from 0 to below the hit counter maximum
 abbrev pub settings_whole : TrackerConfig → Bool
@@ -30,7 +29,7 @@ points_whole n l = not (any (λ x. ltb 10000 x) (take n l))
 
 -- stored ages absent or 0 to frames begun
 unfoldable pub ages_whole : ℕ → ℤ → List PastDetection → Bool
-ages_whole n frames l = not (any (λ e. not (signed_between (negsuc 0) e.age frames)) (take n l))
+ages_whole n frames l = not (any (λ e. not (optional_between (pos 0) e.age frames)) (take n l))
 
 -- age from 0 to frames begun, hit counter -20,000 to 20,000, ReID counter absent or -1 to 10,000, initial period 1 to 1,000, history count 0 to L
 unfoldable pub record_whole : TrackerConfig → ℕ → TrackedObject → Bool
@@ -38,7 +37,7 @@ record_whole c frames o =
     leb o.life.age frames
     && (signed_between (negsuc 19999) o.life.hit_counter (pos 20000)
     && (points_whole c.points o.point_hit_counter
-    && (reid_between (negsuc 0) o.life.reid_hit_counter (pos 10000)
+    && (optional_between (negsuc 0) o.life.reid_hit_counter (pos 10000)
     && (between 1 o.origin.initial_period 1000
     && (leb o.past_count c.past_detections_length && ages_whole o.past_count (pos frames) o.past)))))
 
@@ -54,11 +53,14 @@ names_below limit (suc k) l = names_below limit k l && (ltb (get_or l k 0) limit
 abbrev pub places_whole : ℕ → ℕ → ℕ → List ℕ → Bool
 places_whole places records count at = leb count places && names_below records count at
 
-abbrev pub list_whole : ℕ → Numbers → Bool
-list_whole records l = places_whole 64 records l.count l.at
+abbrev pub numbers_whole : (places : ℕ) → ℕ → Numbers places → Bool
+numbers_whole places records l = places_whole places records l.count l.at
 
-abbrev pub candidates_whole : ℕ → Candidates → Bool
-candidates_whole records l = places_whole 32 records l.count l.at
+abbrev pub list_whole : ℕ → Numbers 64 → Bool
+list_whole records l = numbers_whole 64 records l
+
+abbrev pub candidates_whole : ℕ → Numbers 32 → Bool
+candidates_whole records l = numbers_whole 32 records l
 
 unfoldable pub lists_whole : ℕ → Lists → Bool
 lists_whole records l =

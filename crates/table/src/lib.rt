@@ -5,13 +5,15 @@ pub mod listed;
 pub mod making;
 pub mod ranges;
 pub mod refusals;
+pub mod staying;
 pub mod wholeness;
 
 use matching::Numbers;
 use parts::{TrackedObject, TrackerConfig};
+use refusals::Refusal;
 
 // Which step is next.
-#[derive(Clone, Copy)]
+#[derive(Clone, Copy, PartialEq, Eq)]
 pub enum Phase {
     Predict,
     Match,
@@ -19,7 +21,7 @@ pub enum Phase {
 }
 
 // How many records are in the table, frames begun and records opened; and the next permanent, global and initializing ID.
-#[derive(Clone, Copy)]
+#[derive(Clone, Copy, Default, PartialEq, Eq)]
 pub struct Counts {
     pub records: usize,
     pub frames: u32,
@@ -29,21 +31,14 @@ pub struct Counts {
     pub initializing: u32,
 }
 
-// Records hit in pass 2, in hit order, 0 behind the last: at most one for each of 32 detections.
-#[derive(Clone, Copy)]
-pub struct Candidates {
-    pub at: [usize; 32],
-    pub count: usize,
-}
-
-// The lists kept between steps, of places in the table: from step 1 the alive, the initializing and the dead; from step 2 the old ones and the candidates.
-#[derive(Clone, Copy)]
+// The lists kept between steps, of places in the table: from step 1 the alive, the initializing and the dead; from step 2 the old ones and the candidates, those hit in pass 2 in hit order: at most one for each of 32 detections.
+#[derive(Clone, Copy, PartialEq, Eq)]
 pub struct Lists {
-    pub alive: Numbers,
-    pub initializing: Numbers,
-    pub dead: Numbers,
-    pub old: Numbers,
-    pub candidates: Candidates,
+    pub alive: Numbers<64>,
+    pub initializing: Numbers<64>,
+    pub dead: Numbers<64>,
+    pub old: Numbers<64>,
+    pub candidates: Numbers<32>,
 }
 
 #[derive(Clone, Copy)]
@@ -55,10 +50,17 @@ pub struct Table {
     pub lists: Lists,
 }
 
-// What a call answers: the refusal's number or 0, how many entries of an output it wrote, and the table.
+// The records of a table after some left, and how many stay. No heap: an array and a count.
+#[derive(Clone, Copy)]
+pub struct Kept {
+    pub records: [TrackedObject; 64],
+    pub count: usize,
+}
+
+// What a call answers: the refusal, if one is due, how many entries of an output it wrote, and the table. No Result: a refused call gives the table back too, and a refused making the table of zeros (rule 12).
 #[derive(Clone, Copy)]
 pub struct Answer {
-    pub refusal: u32,
+    pub refusal: Option<Refusal>,
     pub count: usize,
     pub table: Table,
 }

@@ -1,47 +1,28 @@
 // Rule 14: whether a list names records in the table, none twice.
-ghost use Rattle.std.specs.Prelude.{◌≡◌, ◌≤◌, length};
-ghost use Rattle.table.specs.Wholeness.{names_below, list_whole, candidates_whole};
+ghost use Rattle.std.specs.Prelude.{◌≡◌, length};
+ghost use Rattle.table.specs.Wholeness.{names_below, numbers_whole};
 
-use crate::Candidates;
 use matching::Numbers;
 
-// Whether the first n numbers are below the limit, and each differs from those before it.
-fn are_names(at: &[usize], n: usize, limit: usize) -> bool
-    requires { n ≤ length at.now }
-    ensures { result ≡ names_below limit n at.now }
+// Whether each number is below the limit, and differs from those before it.
+#[tactic(auto, using(crate::proofs::Names::new_name, laws::proofs::Search::any_is_list_any), unfolding(crate::specs::Wholeness::names_below))]
+fn are_names(at: &[usize], limit: usize) -> bool
+    ensures { result ≡ names_below limit (length at.now) at.now }
 {
-    let mut i = 0;
-    while i < n {
-        let x = at[i];
-        if limit <= x {
+    for (i, x) in at.iter().enumerate() {
+        if limit <= *x || at[..i].contains(x) {
             return false;
         }
-        if laws::is_among(at, i, x) {
-            return false;
-        }
-        i += 1;
     }
     true
 }
 
-pub fn is_list_whole(list: Numbers, records: usize) -> bool
-    ensures { result ≡ list_whole records list }
+// A list has as many places as its type says; its count may be any number.
+#[tactic(auto, using(crate::proofs::Names::named_front))]
+pub fn is_list_whole<const N: usize>(list: &Numbers<N>, records: usize) -> bool
+    ensures { result ≡ numbers_whole N records list.now }
 {
-    let at = list.at;
-    let n = list.count;
-    if 64 < n {
-        return false;
-    }
-    are_names(&at, n, records)
-}
-
-pub fn are_candidates_whole(list: Candidates, records: usize) -> bool
-    ensures { result ≡ candidates_whole records list }
-{
-    let at = list.at;
-    let n = list.count;
-    if 32 < n {
-        return false;
-    }
-    are_names(&at, n, records)
+    list.at
+        .get(..list.count)
+        .is_some_and(|at| are_names(at, records))
 }

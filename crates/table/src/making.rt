@@ -1,128 +1,96 @@
 // Rules 11, 12, 20 and 21: the delay's rule, the table of zeros, a fresh table, and the refusals in their order.
 ghost use Rattle.std.specs.Prelude.{◌≡◌, true};
 ghost use Rattle.table.specs.Ranges.{settings_in_range};
-ghost use Rattle.table.specs.Refusals.{first_due, storage_need, making_checks, step_checks, predict_checks, phase_number, is_next};
-ghost use Rattle.table.specs.Making.{settled_delay, settled, no_numbers, no_candidates, no_lists, zero_object, empty_table, zero_table, fresh_table, made};
+ghost use Rattle.table.specs.Refusals.{first_due, checked, storage_need, making_checks, step_checks, predict_checks};
+ghost use Rattle.table.specs.Making.{settled_delay, settled, nothing, no_lists, zero_object, empty_table, zero_table, fresh_table, made};
 
-use crate::{Answer, Candidates, Counts, Lists, Phase, Table, ranges, refusals, wholeness};
+use crate::refusals::Refusal;
+use crate::{Answer, Counts, Lists, Phase, Table, ranges, wholeness};
 use filter::FilterSettings;
 use matching::Numbers;
-use parts::{
-    Last, LastDistance, Life, Origin, PastDetection, PermanentId, ReidCounter, TrackedObject,
-    TrackerConfig, block,
-};
+use parts::settings::Settings;
+use parts::{Last, Life, Origin, PastDetection, TrackedObject, TrackerConfig, block};
 
 // A delay of -1 becomes half the maximum, toward zero.
 fn settled_delay(maximum: i32, delay: i32) -> i32
     ensures { result ≡ settled_delay maximum delay }
 {
-    if delay == -1 {
-        return maximum / 2;
-    }
-    delay
+    if delay == -1 { maximum / 2 } else { delay }
 }
 
 fn settle(config: TrackerConfig) -> TrackerConfig
     ensures { result ≡ settled config }
 {
-    let mut next = config;
-    next.initialization_delay = settled_delay(config.hit_counter_max, config.initialization_delay);
-    next
+    TrackerConfig {
+        initialization_delay: settled_delay(config.hit_counter_max, config.initialization_delay),
+        ..config
+    }
 }
 
 // The floats that the settings ask for.
+#[tactic(auto, using(crate::proofs::Facts::sizes_of, crate::proofs::Facts::need_most), unfolding(crate::specs::Refusals::storage_need))]
 pub fn storage_need(config: TrackerConfig) -> usize
     requires { settings_in_range config ≡ true }
     ensures { result ≡ storage_need config }
 {
-    let at = block::layout_of(config);
-    config.capacity * at.size
+    config.capacity * block::layout_of(Settings { config }).size
 }
 
 // The first refusal of a making, of settled settings.
-fn making_refusal(config: TrackerConfig, floats: usize) -> u32
-    ensures { result ≡ first_due (making_checks config floats) }
+#[tactic(auto, unfolding(crate::specs::Refusals::first_due))]
+fn making_refusal(config: TrackerConfig, floats: usize) -> Result<(), Refusal>
+    ensures { result ≡ checked (first_due (making_checks config floats)) }
 {
     if ranges::is_delay_negative(config) {
-        return refusals::DELAY_NEGATIVE;
+        return Err(Refusal::DelayNegative);
     }
     if ranges::is_delay_too_long(config) {
-        return refusals::DELAY_TOO_LONG;
+        return Err(Refusal::DelayTooLong);
     }
     if !ranges::are_settings_in_range(config) {
-        return refusals::SETTING_OUT_OF_RANGE;
+        return Err(Refusal::SettingOutOfRange);
     }
     if floats < storage_need(config) {
-        return refusals::STORAGE_SHORT;
+        return Err(Refusal::StorageShort);
     }
-    0
-}
-
-fn number_of(phase: Phase) -> u32
-    ensures { result ≡ phase_number phase }
-{
-    match phase {
-        Phase::Predict => 1,
-        Phase::Match => 2,
-        Phase::Reid => 3,
-    }
-}
-
-fn is_next(phase: Phase, step: Phase) -> bool
-    ensures { result ≡ is_next phase step }
-{
-    number_of(phase) == number_of(step)
+    Ok(())
 }
 
 // The first of the refusals that every step begins with.
-pub fn step_refusal(t: Table, floats: usize, step: Phase) -> u32
-    ensures { result ≡ first_due (step_checks step t floats) }
+#[tactic(auto, unfolding(crate::specs::Refusals::first_due))]
+pub fn step_refusal(t: &Table, floats: usize, step: Phase) -> Result<(), Refusal>
+    ensures { result ≡ checked (first_due (step_checks step t.now floats)) }
 {
-    let config = t.config;
-    let phase = t.phase;
     if !wholeness::is_whole(t) {
-        return refusals::TABLE_NOT_WHOLE;
+        return Err(Refusal::TableNotWhole);
     }
-    if floats < storage_need(config) {
-        return refusals::STORAGE_SHORT;
+    if floats < storage_need(t.config) {
+        return Err(Refusal::StorageShort);
     }
-    if !is_next(phase, step) {
-        return refusals::OUT_OF_STEP;
+    if t.phase != step {
+        return Err(Refusal::OutOfStep);
     }
-    0
+    Ok(())
 }
 
 // The first refusal of step 1.
-pub fn predict_refusal(t: Table, floats: usize) -> u32
-    ensures { result ≡ first_due (predict_checks t floats) }
+#[tactic(auto, using(crate::proofs::Due::after_step), unfolding(crate::specs::Refusals::first_due))]
+pub fn predict_refusal(t: &Table, floats: usize) -> Result<(), Refusal>
+    ensures { result ≡ checked (first_due (predict_checks t.now floats)) }
 {
-    let counts = t.counts;
-    let first = step_refusal(t, floats, Phase::Predict);
-    if first != 0 {
-        return first;
+    step_refusal(t, floats, Phase::Predict)?;
+    if 200000000 <= t.counts.frames {
+        return Err(Refusal::FramesUsedUp);
     }
-    if 200000000 <= counts.frames {
-        return refusals::FRAMES_USED_UP;
-    }
-    0
+    Ok(())
 }
 
-// No number.
-pub fn no_numbers() -> Numbers
-    ensures { result ≡ no_numbers }
+// No number, in N places.
+pub fn no_numbers<const N: usize>() -> Numbers<N>
+    ensures { result ≡ nothing N }
 {
     Numbers {
-        at: [0; 64],
-        count: 0,
-    }
-}
-
-// No candidate.
-pub fn no_candidates() -> Candidates
-    ensures { result ≡ no_candidates }
-{
-    Candidates {
-        at: [0; 32],
+        at: [0; N],
         count: 0,
     }
 }
@@ -132,13 +100,12 @@ pub fn no_lists() -> Lists
     ensures { result ≡ no_lists }
 {
     let none = no_numbers();
-    let candidates = no_candidates();
     Lists {
         alive: none,
         initializing: none,
         dead: none,
         old: none,
-        candidates,
+        candidates: no_numbers(),
     }
 }
 
@@ -146,7 +113,7 @@ fn zero_object() -> TrackedObject
     ensures { result ≡ zero_object }
 {
     let entry = PastDetection {
-        age: 0,
+        age: Some(0),
         has_scores: false,
     };
     TrackedObject {
@@ -155,15 +122,15 @@ fn zero_object() -> TrackedObject
         point_hit_counter: [0; 16],
         detected_at_least_once_points: 0,
         last: Last {
-            distance: LastDistance::Never,
+            distance: None,
             has_scores: false,
         },
         life: Life {
             age: 0,
             hit_counter: 0,
-            reid_hit_counter: ReidCounter::Absent,
+            reid_hit_counter: None,
             is_initializing: false,
-            id: PermanentId::Unissued,
+            id: None,
         },
         origin: Origin {
             global_id: 0,
@@ -177,27 +144,18 @@ fn zero_object() -> TrackedObject
 fn empty_table(config: TrackerConfig, counts: Counts) -> Table
     ensures { result ≡ empty_table config counts }
 {
-    let zero = zero_object();
-    let lists = no_lists();
     Table {
-        records: [zero; 64],
+        records: [zero_object(); 64],
         config,
         counts,
         phase: Phase::Predict,
-        lists,
+        lists: no_lists(),
     }
 }
 
 fn zero_table() -> Table
     ensures { result ≡ zero_table }
 {
-    let filter = FilterSettings {
-        r: 0.0,
-        q: 0.0,
-        pos_variance: 0.0,
-        pos_vel_covariance: 0.0,
-        vel_variance: 0.0,
-    };
     let config = TrackerConfig {
         points: 0,
         dims: 0,
@@ -206,22 +164,20 @@ fn zero_table() -> Table
         hit_counter_max: 0,
         initialization_delay: 0,
         pointwise_hit_counter_max: 0,
-        reid_hit_counter_max: ReidCounter::Absent,
+        reid_hit_counter_max: None,
         distance_threshold: 0.0,
         detection_threshold: 0.0,
         reid_distance_threshold: 0.0,
         has_reid_distance: false,
-        filter,
+        filter: FilterSettings {
+            r: 0.0,
+            q: 0.0,
+            pos_variance: 0.0,
+            pos_vel_covariance: 0.0,
+            vel_variance: 0.0,
+        },
     };
-    let counts = Counts {
-        records: 0,
-        frames: 0,
-        opened: 0,
-        permanent: 0,
-        global: 0,
-        initializing: 0,
-    };
-    empty_table(config, counts)
+    empty_table(config, Counts::default())
 }
 
 // Of settled settings that pass.
@@ -229,34 +185,28 @@ fn fresh_table(config: TrackerConfig) -> Table
     ensures { result ≡ fresh_table config }
 {
     let counts = Counts {
-        records: 0,
-        frames: 0,
-        opened: 0,
         permanent: 1,
         global: 1,
         initializing: 1,
+        ..Counts::default()
     };
     empty_table(config, counts)
 }
 
 // A fresh table, or the refusal and the table of zeros.
+#[tactic(auto, unfolding(crate::specs::Making::made))]
 pub fn make(config: TrackerConfig, floats: usize) -> Answer
     ensures { result ≡ made config floats }
 {
-    let settings = settle(config);
-    let refusal = making_refusal(settings, floats);
-    let fresh = fresh_table(settings);
-    let zero = zero_table();
-    if refusal == 0 {
-        return Answer {
-            refusal,
-            count: 0,
-            table: fresh,
-        };
-    }
+    let config = settle(config);
+    let refusal = making_refusal(config, floats).err();
+    let table = match refusal {
+        None => fresh_table(config),
+        Some(_) => zero_table(),
+    };
     Answer {
         refusal,
         count: 0,
-        table: zero,
+        table,
     }
 }

@@ -1,28 +1,59 @@
-// Rule 10: the refusal numbers.
-pub const DELAY_NEGATIVE: u32 = 1;
+// Rule 10: the refusals and their numbers.
+ghost use Rattle.std.specs.Prelude.{◌≡◌, Some};
+ghost use Rattle.std.specs.Fmt.{decimal};
+ghost use Rattle.table.specs.Refusals.{number};
 
-pub const DELAY_TOO_LONG: u32 = 2;
+use std::error::Error;
+use std::fmt;
 
-pub const SETTING_OUT_OF_RANGE: u32 = 3;
+#[derive(Clone, Copy, Debug, PartialEq, Eq)]
+pub enum Refusal {
+    DelayNegative,
+    DelayTooLong,
+    SettingOutOfRange,
+    StorageShort,
+    TableNotWhole,
+    OutOfStep,
+    FramesUsedUp,
+    Period,
+    TooManyDetections,
+    Lengths,
+    OutputShort,
+    NotFinite,
+    TableFull,
+    IdsUsedUp,
+}
 
-pub const STORAGE_SHORT: u32 = 4;
+impl Refusal {
+    pub fn number(self) -> u32
+        ensures { result ≡ number self }
+    {
+        match self {
+            Refusal::DelayNegative => 1,
+            Refusal::DelayTooLong => 2,
+            Refusal::SettingOutOfRange => 3,
+            Refusal::StorageShort => 4,
+            Refusal::TableNotWhole => 5,
+            Refusal::OutOfStep => 6,
+            Refusal::FramesUsedUp => 7,
+            Refusal::Period => 8,
+            Refusal::TooManyDetections => 9,
+            Refusal::Lengths => 10,
+            Refusal::OutputShort => 11,
+            Refusal::NotFinite => 12,
+            Refusal::TableFull => 13,
+            Refusal::IdsUsedUp => 14,
+        }
+    }
+}
 
-pub const TABLE_NOT_WHOLE: u32 = 5;
+// The number, as hosts and logs have it.
+impl fmt::Display for Refusal {
+    ghost output = { λ r. Some (decimal (number r)) };
 
-pub const OUT_OF_STEP: u32 = 6;
+    fn fmt<W: fmt::Write>(&self, f: &mut fmt::Formatter<W>) -> fmt::Result {
+        write!(f, "{}", self.number())
+    }
+}
 
-pub const FRAMES_USED_UP: u32 = 7;
-
-pub const PERIOD: u32 = 8;
-
-pub const TOO_MANY_DETECTIONS: u32 = 9;
-
-pub const LENGTHS: u32 = 10;
-
-pub const OUTPUT_SHORT: u32 = 11;
-
-pub const NOT_FINITE: u32 = 12;
-
-pub const TABLE_FULL: u32 = 13;
-
-pub const IDS_USED_UP: u32 = 14;
+impl Error for Refusal {}

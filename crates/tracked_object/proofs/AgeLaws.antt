@@ -10,9 +10,8 @@ use borrow.Author.Tests.{ltb-false}
 use lib.Dec.{ltb}
 use lib.ListN.{get_or, take, drop}
 use lib.Seq.{paste}
-use lib.Signed.{mag}
 use Rattle.parts.specs.declared.PastDetection.{PastDetection}
-use Rattle.parts.specs.Ranges.{AgesInRange, unaged}
+use Rattle.parts.specs.Ranges.{AgeInRange, AgesInRange, unaged}
 use Rattle.parts.specs.Past.{pushed, room_made}
 
 -- ---- what the first elements of a list have, whatever its length: past the end stands z, which has it too
@@ -46,7 +45,7 @@ module _ {A : Type 0} (P : A → Type 0) (z : A) (nowhere : P z) where
 -- ---- a history
 
 abbrev Young : PastDetection → Type 0
-Young e = mag e.age ≤ 200000000
+Young e = AgeInRange e.age
 
 -- the entries that stay
 room_kept : (most count : ℕ) (marks : List PastDetection) (b : Bool) → ltb count most ≡ b → 0 < most → count ≤ most → AgesInRange count marks
@@ -57,7 +56,7 @@ room_kept most count marks false t some full ages i h =
     rw (mul-one (most - 1), zero-add (most - 1))
     (each_moved Young unaged (omega arith) (most - 1) marks (λ j q. ages j (omega arith)) i (omega arith))
 
-pub ages_kept : (most count : ℕ) (e : PastDetection) (marks : List PastDetection) → 0 < most → count ≤ most → mag e.age ≤ 200000000
+pub ages_kept : (most count : ℕ) (e : PastDetection) (marks : List PastDetection) → 0 < most → count ≤ most → AgeInRange e.age
     → AgesInRange count marks → AgesInRange (min (count + 1) most) (pushed most 1 0 count (e ∷ []) marks)
 ages_kept most count e marks some full young ages i h =
     let at = min count (most - 1) in

@@ -1,4 +1,5 @@
 -- Rules 14 and 45: a record in range is in range after a hit.
+use Rattle.std.specs.Prelude.{Option, Some, None}
 use mathlib.Core.Path.{◌≡◌, refl}
 use mathlib.Core.Bool.{Bool, true, false, cond}
 use mathlib.Core.List.{List, [], ◌∷◌}
@@ -12,10 +13,8 @@ use lib.Signed.{le_z, mag}
 use Rattle.parts.specs.declared.TrackerConfig.{TrackerConfig}
 use Rattle.parts.specs.declared.TrackedObject.{TrackedObject}
 use Rattle.parts.specs.declared.PastDetection.{PastDetection}
-use Rattle.parts.specs.declared.ReidCounter.{ReidCounter}
-use Rattle.parts.specs.declared.ReidCounter.TheVariants.{Absent, Present}
 use Rattle.parts.specs.declared.Life.{Life}
-use Rattle.parts.specs.Ranges.{Sizes, ReidInRange, LifeInRange, AgesInRange, ObjectInRange}
+use Rattle.parts.specs.Ranges.{AgeInRange, Sizes, ReidInRange, LifeInRange, AgesInRange, ObjectInRange}
 use Rattle.parts.specs.Life.{smaller_of, raised, promotes, reid_cleared, promoted, raised_only, life_hit}
 use Rattle.parts.specs.Past.{pushed}
 use Rattle.parts.proofs.PointLaws as points
@@ -42,11 +41,11 @@ raised_most rise (negsuc a) (pos n) from most low =
 
 -- ---- the life
 
-cleared_in_range : (counter reid_max : ReidCounter) → ReidInRange counter → ReidInRange (reid_cleared counter reid_max)
-cleared_in_range counter Absent h = h
-cleared_in_range counter (Present m) h = tt
+cleared_in_range : (counter reid_max : Option ℤ) → ReidInRange counter → ReidInRange (reid_cleared counter reid_max)
+cleared_in_range counter None h = h
+cleared_in_range counter (Some m) h = tt
 
-module _ (period : ℕ) (maximum delay : ℤ) (reid_max : ReidCounter) (next : ℕ) (l : Life)
+module _ (period : ℕ) (maximum delay : ℤ) (reid_max : Option ℤ) (next : ℕ) (l : Life)
     (from : le_z (pos 0) maximum ≡ true) (most : le_z maximum (pos 10000) ≡ true) (old : LifeInRange l) where
   raised_in_range : mag (raised period maximum l) ≤ 20000
   raised_in_range = raised_most (2 * period) l.hit_counter maximum from most old.hit_counter
@@ -61,7 +60,7 @@ module _ (period : ℕ) (maximum delay : ℤ) (reid_max : ReidCounter) (next : �
 
 -- ---- the history
 
-marks_in_range : (most count : ℕ) (e : PastDetection) (marks : List PastDetection) (t : Bool) → ltb 0 most ≡ t → count ≤ most → mag e.age ≤ 200000000
+marks_in_range : (most count : ℕ) (e : PastDetection) (marks : List PastDetection) (t : Bool) → ltb 0 most ≡ t → count ≤ most → AgeInRange e.age
     → AgesInRange count marks → AgesInRange (min (count + 1) most) (cond t (pushed most 1 0 count (e ∷ []) marks) marks)
 marks_in_range most count e marks true t full young ages = ages_kept most count e marks (ltb-true 0 most t) full young ages
 marks_in_range most count e marks false t full young ages = λ i h. ages i (omega (arith, ltb-false 0 most t))
@@ -80,7 +79,7 @@ hit_in_range c d period distance next o from most sizes old =
           sizes.pointwise_most c.points old.counters;
       history = omega arith;
       ages =
-          marks_in_range c.past_detections_length o.past_count (record { age = negsuc 0; has_scores = d.has_scores }) o.past
+          marks_in_range c.past_detections_length o.past_count (record { age = None; has_scores = d.has_scores }) o.past
           (ltb 0 c.past_detections_length) refl old.history (omega arith) old.ages;
       period = old.period;
     }

@@ -1,4 +1,5 @@
 -- Rules 61 and 62: what a merge keeps of the old record, and what it takes from the candidate.
+use Rattle.std.specs.Prelude.{None, Some}
 use mathlib.Core.Path.{◌≡◌, refl, sym, ◌∙◌, ap}
 use mathlib.Core.Bool.{Bool, true, false, cond, ◌&&◌}
 use mathlib.Core.List.{List, [], ◌∷◌}
@@ -7,7 +8,7 @@ use native.Mathlib.Nat.{suc-mul, mul-le-mul_right, zero-add, add-zero}
 use native.Mathlib.Omega.{arith}
 use lib.Dec.{ltb}
 use lib.Ieee.{Float}
-use lib.IntN.{pos, negsuc}
+use lib.IntN.{pos}
 use lib.ListN.{length, get_or, take, drop, length-drop}
 use lib.Seq.{paste, length-paste, length-take-le, take-take, take_at}
 use Rattle.laws.specs.Turns.{turns}
@@ -16,7 +17,6 @@ use Rattle.laws.proofs.Pasting.{paste_front, paste_behind, paste_part}
 use Rattle.parts.specs.declared.TrackerConfig.{TrackerConfig}
 use Rattle.parts.specs.declared.TrackedObject.{TrackedObject}
 use Rattle.parts.specs.declared.PastDetection.{PastDetection}
-use Rattle.parts.specs.declared.ReidCounter.TheVariants.{Absent}
 use Rattle.parts.specs.Layout.{coords, width, last_place, past_place, block_size}
 use Rattle.parts.specs.Ranges.{Sizes, ObjectInRange, AgesInRange, unaged}
 use Rattle.tracked_object.specs.Object.{History, takes, added, conditionally_added, mark_of, entry_of, history_merged, taken, merging, object_merged, block_merged}
@@ -32,13 +32,13 @@ some_of (suc n) b h = omega arith
 
 -- the worked case: length 4, full, the oldest of age 3
 module _ (c : TrackerConfig) (four : c.past_detections_length ≡ 4) (has : Bool) (others : List PastDetection) where
-  pub taken_at_12 : takes c 12 (record { age = pos 3; has_scores = has } ∷ others) 4 ≡ true
+  pub taken_at_12 : takes c 12 (record { age = Some (pos 3); has_scores = has } ∷ others) 4 ≡ true
   taken_at_12 = rw four
 
-  pub not_taken_at_11 : takes c 11 (record { age = pos 3; has_scores = has } ∷ others) 4 ≡ false
+  pub not_taken_at_11 : takes c 11 (record { age = Some (pos 3); has_scores = has } ∷ others) 4 ≡ false
   not_taken_at_11 = rw four
 
-  pub not_taken_without_age : (age : ℕ) → takes c age (record { age = negsuc 0; has_scores = has } ∷ others) 4 ≡ false
+  pub not_taken_without_age : (age : ℕ) → takes c age (record { age = None; has_scores = has } ∷ others) 4 ≡ false
   not_taken_without_age age = rw four
 
 -- ---- what entries leave as it was
@@ -76,7 +76,7 @@ module _ (c : TrackerConfig) (sizes : Sizes c) (age : ℕ) (young : age ≤ 2000
   unfolding conditionally_added
   kept_added has entry h whole k =
       let most = c.past_detections_length in
-      let e : PastDetection = record { age = pos age; has_scores = has } in
+      let e : PastDetection = record { age = Some (pos age); has_scores = has } in
       let fits : most ≤ length h.marks = omega (arith, sizes.past_most) in
       chosen (HistoryKept c front) (takes c age h.marks h.count) (added c age has entry h) h
       (λ t.
@@ -143,7 +143,7 @@ module _ (c : TrackerConfig) (candidate : TrackedObject) (from : List Float) (o 
   unfolding object_merged
   hit_counter_merged = refl
 
-  pub reid_counter_merged : merged.life.reid_hit_counter ≡ Absent
+  pub reid_counter_merged : merged.life.reid_hit_counter ≡ None
   unfolding object_merged
   reid_counter_merged = refl
 

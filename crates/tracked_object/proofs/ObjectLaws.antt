@@ -1,4 +1,5 @@
 -- Rules 32, 45 and 46: what becomes of a record and of each part of its block: the coordinates, the last detection, the history.
+use Rattle.std.specs.Prelude.{None}
 use mathlib.Core.Path.{◌≡◌, refl, sym, ◌∙◌, ap}
 use mathlib.Core.Bool.{Bool, true, false, cond}
 use mathlib.Core.List.{List, [], ◌∷◌, ◌++◌}
@@ -8,7 +9,6 @@ use native.Mathlib.Omega.{arith}
 use borrow.Author.Tests.{ltb-true, lt-ltb}
 use lib.Dec.{ltb}
 use lib.Ieee.{Float, nan}
-use lib.IntN.{negsuc}
 use lib.ListN.{length, get_or, take, drop, length-append}
 use lib.Seq.{paste, length-paste, length-take-le, take-add, take_all, drop_at, drop-drop, get_or-take}
 use Rattle.laws.proofs.Pasting.{paste_front, paste_behind, paste_here}
@@ -36,14 +36,14 @@ module _ (c : TrackerConfig) (d : Detection) (period : ℕ) (distance : Float) (
   -- the history of marks: of the old one and the new mark behind it, the last L
   pub marks_hit_lem : 0 < c.past_detections_length → o.past_count ≤ c.past_detections_length → c.past_detections_length ≤ length o.past
       → take (object_hit c d period distance next o).past_count (object_hit c d period distance next o).past
-      ≡ drop (o.past_count + 1 - c.past_detections_length) (take o.past_count o.past ++ (record { age = negsuc 0; has_scores = d.has_scores } ∷ []))
+      ≡ drop (o.past_count + 1 - c.past_detections_length) (take o.past_count o.past ++ (record { age = None; has_scores = d.has_scores } ∷ []))
   unfolding object_hit
   marks_hit_lem some full fits =
       let most = c.past_detections_length in
       let count = o.past_count in
       let left : (count + 1 - min (count + 1) most) * 1 ≡ count + 1 - most = omega arith in
       rw (lt-ltb 0 most some)
-      (rw (mul-one (min (count + 1) most), mul-one count, left) at (history_after most 1 0 count o.past some full (omega arith) (record { age = negsuc 0; has_scores = d.has_scores } ∷ []) refl))
+      (rw (mul-one (min (count + 1) most), mul-one count, left) at (history_after most 1 0 count o.past some full (omega arith) (record { age = None; has_scores = d.has_scores } ∷ []) refl))
 
 -- ---- a block's parts are read in front of where two blocks differ
 

@@ -1,15 +1,15 @@
 -- Rules 32, 45, 46, 61 and 62: a record and its block, predicted, hit, opened and merged.
-use Rattle.std.specs.Prelude.{Bool, true, cond, ◌&&◌, ◌||◌, List, [], ◌∷◌, ◌++◌, ℕ, ◌+◌, ◌*◌, min, ltb, pos, negsuc, get_or, take, drop, replicate, Float}
+use Rattle.std.specs.Prelude.{Bool, true, cond, ◌&&◌, ◌||◌, List, [], ◌∷◌, ◌++◌, ℕ, ◌+◌, ◌*◌, min, ltb, pos, get_or, take, drop, replicate, Float, Some, None}
 use Rattle.std.proofs.Math.Seq.{paste}
 use Rattle.std.specs.Float.Ieee.{lt}
 use Rattle.laws.specs.Float64.{f1}
 use Rattle.laws.specs.Turns.{turns}
 use Rattle.filter.specs.Block.{made_block, predicted_block, updated_block}
+use Rattle.filter.specs.declared.detection.LentDetection.{LentDetection}
 use Rattle.parts.specs.declared.TrackerConfig.{TrackerConfig}
 use Rattle.parts.specs.declared.TrackedObject.{TrackedObject}
 use Rattle.parts.specs.declared.PastDetection.{PastDetection}
 use Rattle.parts.specs.declared.Changed.{Changed}
-use Rattle.parts.specs.declared.LastDistance.TheVariants.{Never, Distance}
 use Rattle.parts.specs.Layout.{coords, width, last_place, past_place}
 use Rattle.parts.specs.Ranges.{unaged}
 use Rattle.parts.specs.Life.{life_predicted, promotes, life_hit, life_opened, life_merged, is_zero}
@@ -21,6 +21,9 @@ pub record Detection : Type 0 where
   pub points : List Float
   pub scores : List Float
   pub has_scores : Bool
+
+abbrev pub detection_of : LentDetection → Detection
+detection_of d = record { points = d.points.now; scores = d.scores.now; has_scores = d.has_scores }
 
 abbrev pub detection : List Float → List Float → Bool → Detection
 detection points scores has = record { points = points; scores = scores; has_scores = has }
@@ -52,7 +55,7 @@ block_predicted c l = predicted_block (coords c) l
 abbrev pub marks_hit : TrackerConfig → Bool → ℕ → List PastDetection → List PastDetection
 marks_hit c has count past =
     cond (ltb 0 c.past_detections_length)
-    (pushed c.past_detections_length 1 0 count (record { age = negsuc 0; has_scores = has } ∷ []) past)
+    (pushed c.past_detections_length 1 0 count (record { age = None; has_scores = has } ∷ []) past)
     past
 
 unfoldable pub object_hit : TrackerConfig → Detection → ℕ → Float → ℕ → TrackedObject → TrackedObject
@@ -64,7 +67,7 @@ object_hit c d period distance next o =
           points_hit c.points d.has_scores c.detection_threshold d.scores period c.pointwise_hit_counter_max o.point_hit_counter;
       detected_at_least_once_points =
           flags_set c.points d.has_scores c.detection_threshold (lt c.detection_threshold f1) d.scores o.detected_at_least_once_points;
-      last = record { distance = Distance distance; has_scores = d.has_scores };
+      last = record { distance = Some distance; has_scores = d.has_scores };
       life = life_hit period c.hit_counter_max c.initialization_delay c.reid_hit_counter_max next o.life;
       origin = o.origin;
     }
@@ -101,7 +104,7 @@ object_opened c d period global_id initializing_id next =
       past_count = 0;
       point_hit_counter = replicate 16 (min period c.pointwise_hit_counter_max);
       detected_at_least_once_points = flags_set c.points d.has_scores c.detection_threshold true d.scores 0;
-      last = record { distance = Never; has_scores = d.has_scores };
+      last = record { distance = None; has_scores = d.has_scores };
       life = life_opened period c.initialization_delay next;
       origin = record { global_id = global_id; initializing_id = initializing_id; initial_period = period };
     }
@@ -134,7 +137,7 @@ takes c age marks count =
 abbrev pub added : TrackerConfig → ℕ → Bool → List Float → History → History
 added c age has entry h =
     record {
-      marks = pushed c.past_detections_length 1 0 h.count (record { age = pos age; has_scores = has } ∷ []) h.marks;
+      marks = pushed c.past_detections_length 1 0 h.count (record { age = Some (pos age); has_scores = has } ∷ []) h.marks;
       count = min (h.count + 1) c.past_detections_length;
       floats = pushed c.past_detections_length (width c) (past_place c) h.count entry h.floats;
     }

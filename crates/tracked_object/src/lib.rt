@@ -1,4 +1,5 @@
 // The object record of tracked_object.rs, and the halves of tracker.rs that change one record: docs/RULES.md, rules 32, 45, 46, 61 and 62.
+// That a record is in range and that a block has its size stay in the clauses: both depend on the settings at hand; a host may put any record into a table, and a struct of a lent `&mut` slice and a ghost field is no plainer.
 #![tactic(auto)]
 
 pub mod hitting;

@@ -4,6 +4,7 @@ use Prim.Native.Nat.{ℕ, ◌≤◌}
 use native.Mathlib.Omega.{arith}
 use borrow.Author.Tests.{ltb-false, eqb-true, not-false}
 use lib.ListN.{length}
+use Rattle.std.specs.Prelude.{None}
 use Rattle.table.specs.declared.Table.{Table}
 use Rattle.table.specs.Making.{zero_object}
 use Rattle.table.specs.Refusals.{first_due, storage_need, predict_checks}
@@ -13,9 +14,9 @@ use Rattle.predict.specs.Step.{Ready}
 use Rattle.reid.specs.Step as reid
 use Rattle.reid.specs.Step.{reid_checks}
 
-pub ready : (t : Table) (floats : ℕ) → length t.records ≡ 64 → first_due (predict_checks t floats) ≡ 0 → Ready t floats
+pub ready : (t : Table) (floats : ℕ) → length t.records ≡ 64 → first_due (predict_checks t floats) ≡ None → Ready t floats
 ready t floats long e =
-    let due = none_due (predict_checks t floats) (omega arith, (omega arith, (omega arith, (omega arith, tt)))) e in
+    let due = none_due (predict_checks t floats) e in
     let f = whole_facts t (not-false _ due.0) in
     let c = t.config in
     record {
@@ -27,10 +28,10 @@ ready t floats long e =
     }
 
 -- and no more records than places in the active list
-pub reid_ready : (t : Table) (floats distances places : ℕ) → length t.records ≡ 64 → first_due (reid_checks t floats distances places) ≡ 0
+pub reid_ready : (t : Table) (floats distances places : ℕ) → length t.records ≡ 64 → first_due (reid_checks t floats distances places) ≡ None
     → reid.Ready t floats distances × (t.counts.records ≤ places)
 reid_ready t floats distances places long e =
-    let due = none_due (reid_checks t floats distances places) (omega arith, (omega arith, (omega arith, (omega arith, (omega arith, tt))))) e in
+    let due = none_due (reid_checks t floats distances places) e in
     let f = whole_facts t (not-false _ due.0) in
     let c = t.config in (
       record {

@@ -8,7 +8,7 @@ use contract.Monad.{Fun}
 use contract.Notation.{connectives}
 use types.Logic.{Logic}
 use base.Logic.{SProp}
-use Rattle.passes.specs.Checks.{frame}
+use Rattle.passes.specs.Checks.{lent_frame}
 use Rattle.tracker.specs.Statements.{NewSays, PredictAnswers, PredictLeaves, MatchAnswers, MatchLeaves, MatchLists, ReidAnswers, ReidLeaves, ReidLists, TotalSays, CurrentSays}
 use Rattle.tracker.specs.contracts.new as new
 use Rattle.tracker.specs.contracts.predict as predict
@@ -53,15 +53,14 @@ module _ {M : Type 1} {𝓤 : Ura M} (𝓛 : Logic 𝓤) (mem : Memory → SProp
       × (says.ensures tt r end ≡ (⌜ ReidAnswers t s d l r ⌝ ∗ (⌜ ReidLeaves t s d l end.1.0.now ⌝ ∗ ⌜ ReidLists t s d l end.1.1.1.0.now ⌝)))
   reid_tied κs args r end = (refl, refl)
 
-  -- t, storage, period, detections, points, scores, has_scores, distances, pairs
-  pub match_tied : (κs : Lfts 6) (args : _) (r : _) (end : _) →
+  -- t, storage, detections, what is lent of the frame, pairs
+  pub match_tied : (κs : Lfts 3) (args : _) (r : _) (end : _) →
       let says = matching.clauses 𝓛 mem run κs args in
       let t = args.0 in
       let s = args.1.0.now in
-      let n = args.1.1.1.0 in
-      let more = args.1.1.1.1 in
-      let f = frame args.1.1.0 more.0.now more.1.0.now more.1.1.0.now more.1.1.1.0.now in
-      let l = more.1.1.1.1.0.now in
+      let n = args.1.1.0 in
+      let f = lent_frame args.1.1.1.0 in
+      let l = args.1.1.1.1.0.now in
       (says.requires tt ≡ ⊤ₛ)
-      × (says.ensures tt r end ≡ (⌜ MatchAnswers t s n f l r ⌝ ∗ (⌜ MatchLeaves t s n f l end.1.0.now ⌝ ∗ ⌜ MatchLists t s n f l end.1.1.1.1.1.1.1.1.0.now ⌝)))
+      × (says.ensures tt r end ≡ (⌜ MatchAnswers t s n f l r ⌝ ∗ (⌜ MatchLeaves t s n f l end.1.0.now ⌝ ∗ ⌜ MatchLists t s n f l end.1.1.1.1.0.now ⌝)))
   match_tied κs args r end = (refl, refl)

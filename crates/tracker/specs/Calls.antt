@@ -1,5 +1,6 @@
 -- Rules 11 to 13, 64, 70 and 71: each public call's answer and what it leaves in the storage, refusals among the cases.
-use Rattle.std.specs.Prelude.{Bool, cond, List, [], ◌++◌, ℕ, ◌-◌, eqb, length, drop, Float}
+use Rattle.std.specs.Prelude.{Bool, cond, List, [], ◌++◌, ℕ, ◌-◌, length, drop, Float, Option, Some, None, is_none, Result, Ok, Err}
+use Rattle.table.specs.declared.refusals.Refusal.{Refusal}
 use Rattle.table.specs.declared.Table.{Table}
 use Rattle.table.specs.declared.Answer.{Answer}
 use Rattle.table.specs.Making.{answer_of}
@@ -10,18 +11,17 @@ use Rattle.matching_step.specs.declared.Matched.{Matched}
 use Rattle.matching_step.specs.Step.{match_refusal, accepted, listed_pairs, match_table}
 use Rattle.reid.specs.Step.{reid_checks, reid_table, reid_floats, active_of, active_ids}
 use Rattle.predict.specs.Step.{predict_table, predict_floats}
-use Rattle.tracker.specs.declared.Count.{Count}
 
 -- ---- step 1
 
-abbrev pub predict_refusal : Table → List Float → ℕ
+abbrev pub predict_refusal : Table → List Float → Option Refusal
 predict_refusal t s = first_due (predict_checks t (length s))
 
 unfoldable pub predict_answer : Table → List Float → Answer
-predict_answer t s = answer_of (predict_refusal t s) (cond (eqb (predict_refusal t s) 0) (predict_table t s) t)
+predict_answer t s = answer_of (predict_refusal t s) (cond (is_none (predict_refusal t s)) (predict_table t s) t)
 
 unfoldable pub predict_storage : Table → List Float → List Float
-predict_storage t s = cond (eqb (predict_refusal t s) 0) (predict_floats t s) s
+predict_storage t s = cond (is_none (predict_refusal t s)) (predict_floats t s) s
 
 -- ---- step 2: its pairs are listed in front, the rest of the list is untouched
 
@@ -44,11 +44,11 @@ match_pairs t s detections f list =
 
 -- ---- step 3: the active are listed in front, the rest of the list is untouched
 
-abbrev pub reid_refusal : Table → List Float → List Float → ℕ → ℕ
+abbrev pub reid_refusal : Table → List Float → List Float → ℕ → Option Refusal
 reid_refusal t s distances places = first_due (reid_checks t (length s) (length distances) places)
 
 abbrev pub reid_accepted : Table → List Float → List Float → ℕ → Bool
-reid_accepted t s distances places = eqb (reid_refusal t s distances places) 0
+reid_accepted t s distances places = is_none (reid_refusal t s distances places)
 
 abbrev pub listed_active : Table → List Float → List Float → ℕ → List ℕ
 listed_active t s distances places =
@@ -73,12 +73,18 @@ reid_active t s distances list =
 
 -- ---- counts
 
-abbrev pub count_of : ℕ → ℕ → Count
-count_of refusal n = record { refusal = refusal; count = cond (eqb refusal 0) n 0 }
+abbrev pub count_of : Option Refusal → ℕ → Result ℕ Refusal
+count_of None n = Ok n
+count_of (Some refusal) n = Err refusal
+
+-- the count that is told; 0 with a refusal
+abbrev pub counted : Result ℕ Refusal → ℕ
+counted (Ok n) = n
+counted (Err refusal) = 0
 
 -- the total is the permanent counter less 1
-unfoldable pub total_answer : Table → Count
+unfoldable pub total_answer : Table → Result ℕ Refusal
 total_answer t = count_of (first_due (count_checks t)) (t.counts.permanent - 1)
 
-unfoldable pub current_answer : Table → Count
+unfoldable pub current_answer : Table → Result ℕ Refusal
 current_answer t = count_of (first_due (count_checks t)) (length (active_of t.counts.records t.records))

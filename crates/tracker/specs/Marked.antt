@@ -1,5 +1,5 @@
 -- Rule 80: the marked numbers, all of them and no others, as one list: what the definitions give, and what the page says.
-use Rattle.std.specs.Prelude.{false, cond, List, [], ◌∷◌, ℕ, suc, eqb, ℤ, pos, negsuc, replicate, Float}
+use Rattle.std.specs.Prelude.{false, cond, List, [], ◌∷◌, ℕ, suc, ℤ, pos, negsuc, replicate, Float, None, is_none}
 use Rattle.std.specs.Int.Signed.{mag}
 use Rattle.std.specs.Float.{binary64, nan}
 use Rattle.std.specs.Float.Ieee.{of_bits}
@@ -11,12 +11,11 @@ use Rattle.filter.specs.declared.FilterSettings.{FilterSettings}
 use Rattle.filter.specs.declared.Coordinate.{Coordinate}
 use Rattle.filter.specs.Coordinate.{started, updated}
 use Rattle.parts.specs.declared.TrackerConfig.{TrackerConfig}
-use Rattle.parts.specs.declared.ReidCounter.TheVariants.{Absent}
 use Rattle.parts.specs.declared.Life.{Life}
 use Rattle.parts.specs.Life.{life_opened, life_predicted, life_hit}
 use Rattle.table.specs.declared.Answer.{Answer}
-use Rattle.table.specs.Refusals.{storage_need}
 use Rattle.table.specs.Making.{zero_config, made}
+use Rattle.table.specs.Refusals.{storage_need, told}
 
 -- ---- making: the refusal and, where it is accepted, the made table's delay
 
@@ -41,7 +40,7 @@ settings_of maximum delay =
 
 -- the delay of an accepted making is not negative, so that its magnitude is its number
 abbrev pub spelt_answer : Answer → List ℕ
-spelt_answer a = a.refusal ∷ cond (eqb a.refusal 0) (mag a.table.config.initialization_delay ∷ []) []
+spelt_answer a = told a.refusal ∷ cond (is_none a.refusal) (mag a.table.config.initialization_delay ∷ []) []
 
 -- made of delay -1 in a storage of exactly the need
 abbrev pub making : ℤ → List ℕ → Worked
@@ -92,7 +91,7 @@ abbrev pub opened : Life
 opened = life_opened 20 (pos 7) 1
 
 abbrev pub predicted_and_hit : Life
-predicted_and_hit = life_hit 20 (pos 15) (pos 7) Absent 1 (life_predicted Absent opened)
+predicted_and_hit = life_hit 20 (pos 15) (pos 7) None 1 (life_predicted None opened)
 
 -- ---- the list
 

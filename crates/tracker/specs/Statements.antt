@@ -1,13 +1,13 @@
 -- Rules 12 and 13: what each public call's contract says, as a type over all that it answers and leaves: proofs/Tied.antt shows that it is the contract's own text.
-use Rattle.std.specs.Prelude.{◌≡◌, List, ℕ, length, Float}
+use Rattle.std.specs.Prelude.{◌≡◌, List, ℕ, length, Float, Result}
 use Rattle.parts.specs.declared.TrackerConfig.{TrackerConfig}
+use Rattle.table.specs.declared.refusals.Refusal.{Refusal}
 use Rattle.table.specs.declared.Table.{Table}
 use Rattle.table.specs.declared.Answer.{Answer}
 use Rattle.table.specs.Making.{made}
 use Rattle.pairs.specs.declared.Pair.{Pair}
 use Rattle.passes.specs.Checks.{Frame}
 use Rattle.matching_step.specs.Step.{matched_floats}
-use Rattle.tracker.specs.declared.Count.{Count}
 use Rattle.tracker.specs.Calls.{predict_answer, predict_storage, match_answer, match_pairs, reid_answer, reid_storage, reid_active, total_answer, current_answer}
 
 -- making
@@ -51,8 +51,8 @@ abbrev pub ReidSays : Table → List Float → List Float → List ℕ → Answe
 ReidSays t s d l a s' l' = ReidAnswers t s d l a × ReidLeaves t s d l s' × ReidLists t s d l l'
 
 -- the counts
-abbrev pub TotalSays : Table → Count → Type 0
+abbrev pub TotalSays : Table → Result ℕ Refusal → Type 0
 TotalSays t n = n ≡ total_answer t
 
-abbrev pub CurrentSays : Table → Count → Type 0
+abbrev pub CurrentSays : Table → Result ℕ Refusal → Type 0
 CurrentSays t n = n ≡ current_answer t

@@ -1,96 +1,47 @@
 // A trace's frames: what the host lends goes to the three steps, and what they answer is held to the trace.
-use crate::reading::FRAME;
-use crate::{holding, reading};
+use crate::holding::{Trace, told};
+use crate::lent::{Detections, Shape};
 use std::io;
-use std::io::Input;
-use tracker::Table;
+use std::io::BufRead;
+use tracker::{Pair, Table};
 
 // The frames of a trace.
 pub(crate) fn run(
-    rt: &(impl Input + Print),
-    t: Table,
-    storage: &mut [f64; 55296],
-    text: &mut [u8; 65536],
-    c: &mut [usize; 6],
+    trace: &mut Trace<impl BufRead>,
+    mut table: Table,
+    storage: &mut [f64],
 ) -> io::Result<()> {
-    let frames = reading::few(rt, text, c, 1000000)?;
-    let mut table = t;
-    let mut i = 0;
-    while i < frames {
-        i += 1;
-        c[FRAME] = i;
-        table = frame(rt, table, storage, text, c)?;
+    let frames = trace.reader.few(1000000)?;
+    for i in 1..=frames {
+        trace.frame = i;
+        table = frame(trace, table, storage)?;
     }
     Ok(())
 }
 
-fn frame(
-    rt: &(impl Input + Print),
-    t: Table,
-    storage: &mut [f64; 55296],
-    text: &mut [u8; 65536],
-    c: &mut [usize; 6],
-) -> io::Result<Table> {
-    let first = tracker::predict(t, storage);
-    holding::meet(rt, c, b"step 1", 0, first.refusal as u64)?;
-    let second = step_2(rt, first.table, storage, text, c)?;
-    let third = step_3(rt, second, storage, text, c)?;
-    holding::hold_table(rt, third, storage, text, c)?;
+fn frame(trace: &mut Trace<impl BufRead>, table: Table, storage: &mut [f64]) -> io::Result<Table> {
+    let first = tracker::predict(table, storage);
+    trace.meet("step 1", 0, told(first.refusal));
+    let second = step_2(trace, first.table, storage)?;
+    let third = step_3(trace, second, storage)?;
+    trace.hold_table(&third, storage)?;
     Ok(third)
 }
 
-fn step_2(
-    rt: &(impl Input + Print),
-    t: Table,
-    storage: &mut [f64; 55296],
-    text: &mut [u8; 65536],
-    c: &mut [usize; 6],
-) -> io::Result<Table> {
-    let config = t.config;
-    let period = reading::few(rt, text, c, 100000)?;
-    let detections = reading::few(rt, text, c, 64)?;
-    let records = reading::few(rt, text, c, 64)?;
-    let coords = reading::area(config.points, config.dims);
-    let all = reading::area(detections, coords);
-    let marked = reading::area(detections, config.points);
-    let measured = reading::area(detections, records);
-    let points = reading::floats(rt, text, c, all)?;
-    let scores = reading::floats(rt, text, c, marked)?;
-    let has_scores = reading::bytes(rt, text, c, detections)?;
-    let distances = reading::floats(rt, text, c, measured)?;
-    let matched = by_value::match_detections(
-        t,
-        storage,
-        period as u32,
-        detections,
-        &points[..all],
-        &scores[..marked],
-        &has_scores[..detections],
-        &distances[..measured],
-        by_value::no_pairs(),
-        32,
-    );
-    let answer = matched.answer;
-    let pairs = matched.pairs;
-    holding::meet(rt, c, b"step 2", 0, answer.refusal as u64)?;
-    holding::hold_pairs(rt, pairs, answer.count, text, c)?;
+fn step_2(trace: &mut Trace<impl BufRead>, table: Table, storage: &mut [f64]) -> io::Result<Table> {
+    let detections = Detections::read(&mut trace.reader, Shape::of(&table.config), 100000, 64)?;
+    let mut pairs = [Pair::default(); 32];
+    let answer = detections.match_table(table, storage, &mut pairs);
+    trace.meet("step 2", 0, told(answer.refusal));
+    trace.hold_pairs(&pairs, answer.count)?;
     Ok(answer.table)
 }
 
-fn step_3(
-    rt: &(impl Input + Print),
-    t: Table,
-    storage: &mut [f64; 55296],
-    text: &mut [u8; 65536],
-    c: &mut [usize; 6],
-) -> io::Result<Table> {
-    let candidates = reading::few(rt, text, c, 32)?;
-    let old = reading::few(rt, text, c, 64)?;
-    let measured = reading::area(candidates, old);
-    let distances = reading::floats(rt, text, c, measured)?;
-    let mut active = [0u32; 64];
-    let last = tracker::reid(t, storage, &distances[..measured], &mut active);
-    holding::meet(rt, c, b"step 3", 0, last.refusal as u64)?;
-    holding::hold_active(rt, active, last.count, text, c)?;
-    Ok(last.table)
+fn step_3(trace: &mut Trace<impl BufRead>, table: Table, storage: &mut [f64]) -> io::Result<Table> {
+    let distances = trace.reader.matrix()?;
+    let mut active = [0; 64];
+    let answer = tracker::reid(table, storage, distances.as_slice(), &mut active);
+    trace.meet("step 3", 0, told(answer.refusal));
+    trace.hold_active(&active, answer.count)?;
+    Ok(answer.table)
 }

@@ -1,347 +1,194 @@
 // What the calls answered, held word by word to what the trace says: every field of every record, and every float of its block.
-ghost use Rattle.std.specs.Prelude.{◌≤◌};
+use crate::lent::Shape;
+use crate::reading::Reader;
+use parts::TrackedObject;
+use std::io::BufRead;
+use std::{fmt, io};
+use tracker::{Pair, Refusal, Table};
 
-use crate::reading;
-use crate::reading::{DIFFERENCES, FRAME, RECORD};
-use parts::{LastDistance, PastDetection, PermanentId, ReidCounter, TrackedObject};
-use std::io;
-use std::io::Input;
-use tracker::{Pair, Table};
-
-// The trace's first difference is printed; all are counted.
-pub(crate) fn meet(
-    rt: &impl Print,
-    c: &mut [usize; 6],
-    name: &[u8],
-    want: u64,
-    got: u64,
-) -> io::Result<()> {
-    if want == got {
-        return Ok(());
-    }
-    let n = c[DIFFERENCES];
-    if n == 0 {
-        print!(rt;
-            "first difference in frame {}, entry {}, ",
-            c[FRAME], c[RECORD]
-        )?;
-        rt.write_all(name)?;
-        print!(rt; ": expected {want:x}, got {got:x}; ")?;
-    }
-    if n < 1000000000 {
-        c[DIFFERENCES] = n + 1;
-    }
-    Ok(())
-}
-
-// A number, held to the next word.
-pub(crate) fn hold(
-    rt: &(impl Input + Print),
-    text: &mut [u8; 65536],
-    c: &mut [usize; 6],
-    name: &[u8],
-    got: u64,
-) -> io::Result<()> {
-    let want = reading::word(rt, text, c)?;
-    meet(rt, c, name, want, got)
-}
-
-// A float, held to the next word, NaN as one value.
-fn hold_float(
-    rt: &(impl Input + Print),
-    text: &mut [u8; 65536],
-    c: &mut [usize; 6],
-    name: &[u8],
-    got: f64,
-) -> io::Result<()> {
-    let want = words::word_of(words::float_of(reading::word(rt, text, c)?));
-    meet(rt, c, name, want, words::word_of(got))
-}
-
-fn hold_bool(
-    rt: &(impl Input + Print),
-    text: &mut [u8; 65536],
-    c: &mut [usize; 6],
-    name: &[u8],
-    got: bool,
-) -> io::Result<()> {
-    if got {
-        return hold(rt, text, c, name, 1);
-    }
-    hold(rt, text, c, name, 0)
-}
-
-// The pair list, up to the count.
-pub(crate) fn hold_pairs(
-    rt: &(impl Input + Print),
-    pairs: [Pair; 40],
-    n: usize,
-    text: &mut [u8; 65536],
-    c: &mut [usize; 6],
-) -> io::Result<()> {
-    hold(rt, text, c, b"number of pairs", n as u64)?;
-    let mut i = 0;
-    while i < 40 {
-        if i < n {
-            let p = pairs[i];
-            c[RECORD] = i;
-            hold(rt, text, c, b"detection of a pair", p.detection as u64)?;
-            hold(rt, text, c, b"global ID of a pair", p.global_id as u64)?;
-            hold(rt, text, c, b"pass of a pair", p.pass as u64)?;
-            hold_float(rt, text, c, b"distance of a pair", p.distance)?;
-        }
-        i += 1;
-    }
-    Ok(())
-}
-
-// The active list, up to the count.
-pub(crate) fn hold_active(
-    rt: &(impl Input + Print),
-    active: [u32; 64],
-    n: usize,
-    text: &mut [u8; 65536],
-    c: &mut [usize; 6],
-) -> io::Result<()> {
-    hold(rt, text, c, b"number of active records", n as u64)?;
-    let mut i = 0;
-    while i < 64 {
-        if i < n {
-            c[RECORD] = i;
-            hold(rt, text, c, b"active global ID", active[i] as u64)?;
-        }
-        i += 1;
-    }
-    Ok(())
-}
-
-// Both counts, and every record.
-pub(crate) fn hold_table(
-    rt: &(impl Input + Print),
-    t: Table,
-    storage: &[f64; 55296],
-    text: &mut [u8; 65536],
-    c: &mut [usize; 6],
-) -> io::Result<()> {
-    let total = tracker::total_object_count(t);
-    meet(rt, c, b"total's refusal", 0, total.refusal as u64)?;
-    hold(rt, text, c, b"total", total.count as u64)?;
-    let current = tracker::current_object_count(t);
-    meet(rt, c, b"current count's refusal", 0, current.refusal as u64)?;
-    hold(rt, text, c, b"current count", current.count as u64)?;
-    let counts = t.counts;
-    hold(rt, text, c, b"number of records", counts.records as u64)?;
-    let config = t.config;
-    let records = t.records;
-    let coords = reading::area(config.points, config.dims);
-    hold_records(
-        rt,
-        records,
-        counts.records,
-        Shape {
-            points: config.points,
-            coords,
-            past: config.past_detections_length,
-        },
-        storage,
-        text,
-        c,
-    )
-}
-
-// What tells where a record's floats lie.
+// An answer that is not the trace's.
 #[derive(Clone, Copy)]
-struct Shape {
-    points: usize,
-    coords: usize,
-    past: usize,
+pub(crate) struct Difference {
+    frame: usize,
+    entry: usize,
+    name: &'static str,
+    expected: u64,
+    got: u64,
 }
 
-fn hold_records(
-    rt: &(impl Input + Print),
-    records: [TrackedObject; 64],
-    n: usize,
-    shape: Shape,
-    storage: &[f64; 55296],
-    text: &mut [u8; 65536],
-    c: &mut [usize; 6],
-) -> io::Result<()> {
-    let size = floats_of(shape, shape.past);
-    let mut from = 0;
-    let mut i = 0;
-    while i < 64 {
-        if i < n {
-            let o = records[i];
-            c[RECORD] = i;
-            hold_marks(rt, o, shape.points, text, c)?;
-            hold_floats(rt, storage, from, floats_of(shape, o.past_count), text, c)?;
-        }
-        if from < 55296 {
-            from = from + size;
-        }
-        i += 1;
-    }
-    Ok(())
-}
-
-// How many floats a block has with so many past detections.
-fn floats_of(shape: Shape, past: usize) -> usize
-    ensures { result ≤ 5000 }
-{
-    if past > 8 {
-        return 0;
-    }
-    if shape.coords > 64 {
-        return 0;
-    }
-    if shape.points > 64 {
-        return 0;
-    }
-    6 * shape.coords + reading::area(past + 1, shape.coords + shape.points)
-}
-
-// Every field of a record, the floats of its block apart.
-fn hold_marks(
-    rt: &(impl Input + Print),
-    o: TrackedObject,
-    points: usize,
-    text: &mut [u8; 65536],
-    c: &mut [usize; 6],
-) -> io::Result<()> {
-    let origin = o.origin;
-    hold(rt, text, c, b"global ID", origin.global_id as u64)?;
-    hold(
-        rt,
-        text,
-        c,
-        b"initializing ID",
-        origin.initializing_id as u64,
-    )?;
-    hold(rt, text, c, b"initial period", origin.initial_period as u64)?;
-    let life = o.life;
-    hold(rt, text, c, b"age", life.age as u64)?;
-    hold(
-        rt,
-        text,
-        c,
-        b"hit counter",
-        words::moved_up(life.hit_counter),
-    )?;
-    let reid = life.reid_hit_counter;
-    hold(rt, text, c, b"ReID counter", word_of_reid(reid))?;
-    hold_bool(rt, text, c, b"is initializing", life.is_initializing)?;
-    let id = life.id;
-    hold(rt, text, c, b"permanent ID", word_of_id(id))?;
-    hold(
-        rt,
-        text,
-        c,
-        b"seen flags",
-        o.detected_at_least_once_points as u64,
-    )?;
-    let counters = o.point_hit_counter;
-    hold_counters(rt, counters, points, text, c)?;
-    let last = o.last;
-    let distance = last.distance;
-    hold_distance(rt, distance, text, c)?;
-    hold_bool(rt, text, c, b"last detection has scores", last.has_scores)?;
-    let past = o.past;
-    hold_past(rt, past, o.past_count, text, c)
-}
-
-fn word_of_reid(r: ReidCounter) -> u64 {
-    match r {
-        ReidCounter::Absent => 0,
-        ReidCounter::Present(n) => words::moved_up(n),
+impl fmt::Display for Difference {
+    fn fmt<W: fmt::Write>(&self, f: &mut fmt::Formatter<W>) -> fmt::Result {
+        write!(
+            f,
+            "difference in frame {}, entry {}, {}: expected {:x}, got {:x}",
+            self.frame, self.entry, self.name, self.expected, self.got
+        )
     }
 }
 
-fn word_of_id(id: PermanentId) -> u64 {
-    match id {
-        PermanentId::Unissued => 0,
-        PermanentId::Issued(n) => n as u64,
-    }
+// The traces, the frame and the entry at hand, and how the trace at hand differs so far.
+#[derive(Drop)]
+pub(crate) struct Trace<R> {
+    pub(crate) reader: Reader<R>,
+    pub(crate) frame: usize,
+    entry: usize,
+    pub(crate) differences: u64,
+    pub(crate) first: Option<Difference>,
 }
 
-fn hold_distance(
-    rt: &(impl Input + Print),
-    d: LastDistance,
-    text: &mut [u8; 65536],
-    c: &mut [usize; 6],
-) -> io::Result<()> {
-    match d {
-        LastDistance::Never => {
-            hold(rt, text, c, b"has a last distance", 0)?;
-            hold_float(rt, text, c, b"last distance", 0.0)?;
-        }
-        LastDistance::Distance(x) => {
-            hold(rt, text, c, b"has a last distance", 1)?;
-            hold_float(rt, text, c, b"last distance", x)?;
+impl<R: BufRead> Trace<R> {
+    pub(crate) fn new(reader: Reader<R>) -> Self {
+        Trace {
+            reader,
+            frame: 0,
+            entry: 0,
+            differences: 0,
+            first: None,
         }
     }
-    Ok(())
+
+    // The next trace begins. The entry at hand stays, as it does from one frame to the next.
+    pub(crate) fn begin(&mut self) {
+        self.frame = 0;
+        self.differences = 0;
+        self.first = None;
+    }
+
+    // All differences are counted, up to 1,000,000,000, and the first is kept.
+    pub(crate) fn meet(&mut self, name: &'static str, expected: u64, got: u64) {
+        if expected == got {
+            return;
+        }
+        if self.first.is_none() {
+            self.first = Some(Difference {
+                frame: self.frame,
+                entry: self.entry,
+                name,
+                expected,
+                got,
+            });
+        }
+        if self.differences < 1000000000 {
+            self.differences += 1;
+        }
+    }
+
+    // A number, held to the next word.
+    pub(crate) fn hold(&mut self, name: &'static str, got: u64) -> io::Result<()> {
+        let expected = self.reader.word()?;
+        self.meet(name, expected, got);
+        Ok(())
+    }
+
+    // A float, held to the next word, NaN as one value.
+    fn hold_float(&mut self, name: &'static str, got: f64) -> io::Result<()> {
+        let expected = self.reader.float()?;
+        self.meet(name, words::word_of(expected), words::word_of(got));
+        Ok(())
+    }
+
+    fn hold_flag(&mut self, name: &'static str, got: bool) -> io::Result<()> {
+        self.hold(name, u64::from(got))
+    }
+
+    // The pair list, up to the count.
+    pub(crate) fn hold_pairs(&mut self, pairs: &[Pair], count: usize) -> io::Result<()> {
+        self.hold("number of pairs", count as u64)?;
+        for (i, pair) in pairs.iter().take(count).enumerate() {
+            self.entry = i;
+            self.hold("detection of a pair", pair.detection as u64)?;
+            self.hold("global ID of a pair", u64::from(pair.global_id))?;
+            self.hold("pass of a pair", u64::from(pair.pass))?;
+            self.hold_float("distance of a pair", pair.distance)?;
+        }
+        Ok(())
+    }
+
+    // The active list, up to the count.
+    pub(crate) fn hold_active(&mut self, active: &[u32], count: usize) -> io::Result<()> {
+        self.hold("number of active records", count as u64)?;
+        for (i, id) in active.iter().take(count).enumerate() {
+            self.entry = i;
+            self.hold("active global ID", u64::from(*id))?;
+        }
+        Ok(())
+    }
+
+    // Both counts, and every record.
+    pub(crate) fn hold_table(&mut self, table: &Table, storage: &[f64]) -> io::Result<()> {
+        let total = tracker::total_object_count(*table);
+        self.hold_count("total", "total's refusal", total)?;
+        let current = tracker::current_object_count(*table);
+        self.hold_count("current count", "current count's refusal", current)?;
+        let records = table.counts.records;
+        self.hold("number of records", records as u64)?;
+        let shape = Shape::of(&table.config);
+        // at least 1, since the table of a refused tracker has no points
+        let blocks = storage.chunks(shape.block_floats().max(1));
+        let objects = table.records.iter().take(records);
+        for (i, (object, block)) in objects.zip(blocks).enumerate() {
+            self.entry = i;
+            self.hold_object(object, shape.points)?;
+            self.hold_floats(block, shape.used_floats(object.past_count))?;
+        }
+        Ok(())
+    }
+
+    fn hold_count(
+        &mut self,
+        name: &'static str,
+        refusal: &'static str,
+        answer: Result<usize, Refusal>,
+    ) -> io::Result<()> {
+        self.meet(refusal, 0, told(answer.err()));
+        self.hold(name, answer.unwrap_or(0) as u64)
+    }
+
+    // Every field of a record, the floats of its block apart.
+    fn hold_object(&mut self, object: &TrackedObject, points: usize) -> io::Result<()> {
+        let origin = object.origin;
+        self.hold("global ID", u64::from(origin.global_id))?;
+        self.hold("initializing ID", u64::from(origin.initializing_id))?;
+        self.hold("initial period", u64::from(origin.initial_period))?;
+        let life = object.life;
+        self.hold("age", u64::from(life.age))?;
+        self.hold("hit counter", words::moved_up(life.hit_counter))?;
+        let reid = life.reid_hit_counter.map_or(0, words::moved_up);
+        self.hold("ReID counter", reid)?;
+        self.hold_flag("is initializing", life.is_initializing)?;
+        self.hold("permanent ID", life.id.map_or(0, u64::from))?;
+        let seen = object.detected_at_least_once_points;
+        self.hold("seen flags", u64::from(seen))?;
+        for counter in object.point_hit_counter.iter().take(points) {
+            self.hold("point counter", u64::from(*counter))?;
+        }
+        let distance = object.last.distance;
+        self.hold_flag("has a last distance", distance.is_some())?;
+        self.hold_float("last distance", distance.unwrap_or(0.0))?;
+        self.hold_flag("last detection has scores", object.last.has_scores)?;
+        self.hold_past(object)
+    }
+
+    fn hold_past(&mut self, object: &TrackedObject) -> io::Result<()> {
+        self.hold("past detections", object.past_count as u64)?;
+        for past in object.past.iter().take(object.past_count) {
+            let age = past.age.unwrap_or(-1);
+            self.hold("age of a past detection", words::moved_up(age))?;
+            self.hold_flag("past detection has scores", past.has_scores)?;
+        }
+        Ok(())
+    }
+
+    // The first n floats of a block.
+    fn hold_floats(&mut self, block: &[f64], n: usize) -> io::Result<()> {
+        for float in block.iter().take(n) {
+            self.hold_float("float of the block", *float)?;
+        }
+        Ok(())
+    }
 }
 
-fn hold_counters(
-    rt: &(impl Input + Print),
-    counters: [u32; 16],
-    n: usize,
-    text: &mut [u8; 65536],
-    c: &mut [usize; 6],
-) -> io::Result<()> {
-    let mut i = 0;
-    while i < 16 {
-        if i < n {
-            hold(rt, text, c, b"point counter", counters[i] as u64)?;
-        }
-        i += 1;
-    }
-    Ok(())
-}
-
-fn hold_past(
-    rt: &(impl Input + Print),
-    past: [PastDetection; 8],
-    n: usize,
-    text: &mut [u8; 65536],
-    c: &mut [usize; 6],
-) -> io::Result<()> {
-    hold(rt, text, c, b"past detections", n as u64)?;
-    let mut i = 0;
-    while i < 8 {
-        if i < n {
-            let p = past[i];
-            hold(
-                rt,
-                text,
-                c,
-                b"age of a past detection",
-                words::moved_up(p.age),
-            )?;
-            hold_bool(rt, text, c, b"past detection has scores", p.has_scores)?;
-        }
-        i += 1;
-    }
-    Ok(())
-}
-
-// n floats of the storage.
-fn hold_floats(
-    rt: &(impl Input + Print),
-    storage: &[f64; 55296],
-    from: usize,
-    n: usize,
-    text: &mut [u8; 65536],
-    c: &mut [usize; 6],
-) -> io::Result<()> {
-    let mut i = 0;
-    while i < n {
-        if from < 55296 {
-            if i < 55296 - from {
-                hold_float(rt, text, c, b"float of the block", storage[from + i])?;
-            }
-        }
-        i += 1;
-    }
-    Ok(())
+// The number of a refusal, 0 where there is none.
+pub(crate) fn told(refusal: Option<Refusal>) -> u64 {
+    refusal.map_or(0, |refusal| u64::from(refusal.number()))
 }

@@ -3,123 +3,55 @@
 
 mod frames;
 mod holding;
+mod lent;
 mod pace;
 mod reading;
 
-use reading::{DIFFERENCES, FRAME};
+use holding::{Trace, told};
+use reading::Reader;
 use std::io;
-use std::io::Input;
-use tracker::{FilterSettings, ReidCounter, TrackerConfig};
+use std::io::{BufRead, BufReader};
 
 fn main(rt: HostRuntime) -> io::Result<()> {
-    let mut text = [0u8; 65536];
-    // room for 64 records of 16 points of 3 coordinates with 8 past detections
-    let mut storage = [0.0; 55296];
-    let mut c = [0usize; 6];
-    let traces = reading::few(&rt, &mut text, &mut c, 1000000)?;
+    let input = BufReader::with_capacity(rt.alloc(), 65536, rt.reader())?;
+    let mut reader = Reader::new(rt.alloc(), input);
+    let traces = reader.few(1000000)?;
     if traces == 0 {
-        return pace::run(&rt, &mut text, &mut c);
+        return pace::run(&rt, &mut reader);
     }
-    let mut sums = [0u64; 2];
-    let mut i = 0;
-    while i < traces {
-        i += 1;
-        trace(&rt, i, &mut storage, &mut text, &mut c)?;
-        sums[0] = sums[0].wrapping_add(c[FRAME] as u64);
-        sums[1] = sums[1].wrapping_add(c[DIFFERENCES] as u64);
-    }
-    put(&rt, traces as u64, b" traces, ")?;
-    put(&rt, sums[0], b" frames, ")?;
-    put(&rt, sums[1], b" differences\n")
+    let mut trace = Trace::new(reader);
+    hold_traces(&rt, &mut trace, traces)
 }
 
-fn put(rt: &impl Print, n: u64, unit: &[u8]) -> io::Result<()> {
-    rt.print(n)?;
-    rt.write_all(unit)
+// Each trace, and a line for all.
+fn hold_traces(rt: &impl Print, trace: &mut Trace<impl BufRead>, traces: usize) -> io::Result<()> {
+    // room for 64 records of 16 points of 3 coordinates with 8 past detections
+    let mut storage = [0.0; 55296];
+    let mut frames = 0u64;
+    let mut differences = 0u64;
+    for n in 1..=traces {
+        hold_trace(rt, n, trace, &mut storage)?;
+        frames = frames.wrapping_add(trace.frame as u64);
+        differences = differences.wrapping_add(trace.differences);
+    }
+    println!(rt; "{traces} traces, {frames} frames, {differences} differences")
 }
 
 // A trace, and its line.
-fn trace(
-    rt: &(impl Input + Print),
+fn hold_trace(
+    rt: &impl Print,
     n: usize,
-    storage: &mut [f64; 55296],
-    text: &mut [u8; 65536],
-    c: &mut [usize; 6],
+    trace: &mut Trace<impl BufRead>,
+    storage: &mut [f64],
 ) -> io::Result<()> {
-    c[FRAME] = 0;
-    c[DIFFERENCES] = 0;
-    rt.write_all(b"trace ")?;
-    put(rt, n as u64, b": ")?;
-    let config = settings(rt, text, c)?;
+    trace.begin();
+    let config = trace.reader.settings()?;
     let made = tracker::new(config, storage);
-    holding::hold(rt, text, c, b"making", made.refusal as u64)?;
-    let table = made.table;
-    frames::run(rt, table, storage, text, c)?;
-    if c[DIFFERENCES] == 0 {
-        put(rt, c[FRAME] as u64, b" frames, same\n")?;
-    } else {
-        put(rt, c[FRAME] as u64, b" frames\n")?;
+    trace.hold("making", told(made.refusal))?;
+    frames::run(trace, made.table, storage)?;
+    let frames = trace.frame;
+    match trace.first {
+        None => println!(rt; "trace {n}: {frames} frames, same"),
+        Some(first) => println!(rt; "trace {n}: first {first}; {frames} frames"),
     }
-    Ok(())
-}
-
-fn settings(
-    rt: &impl Input,
-    text: &mut [u8; 65536],
-    c: &mut [usize; 6],
-) -> io::Result<TrackerConfig> {
-    let points = reading::few(rt, text, c, 1000)?;
-    let dims = reading::few(rt, text, c, 1000)?;
-    let capacity = reading::few(rt, text, c, 1000)?;
-    let past_detections_length = reading::few(rt, text, c, 1000)?;
-    let hit_counter_max = words::moved_down(reading::word(rt, text, c)?);
-    let initialization_delay = words::moved_down(reading::word(rt, text, c)?);
-    let pointwise_hit_counter_max = reading::few(rt, text, c, 100000)? as u32;
-    let reid_hit_counter_max = reid_counter(reading::word(rt, text, c)?);
-    let distance_threshold = words::float_of(reading::word(rt, text, c)?);
-    let detection_threshold = words::float_of(reading::word(rt, text, c)?);
-    let reid_distance_threshold = words::float_of(reading::word(rt, text, c)?);
-    let has_reid_distance = reading::word(rt, text, c)? != 0;
-    let filter = filter_settings(rt, text, c)?;
-    Ok(TrackerConfig {
-        points,
-        dims,
-        capacity,
-        past_detections_length,
-        hit_counter_max,
-        initialization_delay,
-        pointwise_hit_counter_max,
-        reid_hit_counter_max,
-        distance_threshold,
-        detection_threshold,
-        reid_distance_threshold,
-        has_reid_distance,
-        filter,
-    })
-}
-
-fn reid_counter(w: u64) -> ReidCounter {
-    if w == 0 {
-        return ReidCounter::Absent;
-    }
-    ReidCounter::Present(words::moved_down(w))
-}
-
-fn filter_settings(
-    rt: &impl Input,
-    text: &mut [u8; 65536],
-    c: &mut [usize; 6],
-) -> io::Result<FilterSettings> {
-    let r = words::float_of(reading::word(rt, text, c)?);
-    let q = words::float_of(reading::word(rt, text, c)?);
-    let pos_variance = words::float_of(reading::word(rt, text, c)?);
-    let pos_vel_covariance = words::float_of(reading::word(rt, text, c)?);
-    let vel_variance = words::float_of(reading::word(rt, text, c)?);
-    Ok(FilterSettings {
-        r,
-        q,
-        pos_variance,
-        pos_vel_covariance,
-        vel_variance,
-    })
 }

@@ -1,147 +1,123 @@
-// The words of the input, one after the other: see FORMAT.md. What was read so far stands in a cursor.
-ghost use Rattle.std.specs.Prelude.{◌≡◌, ◌≤◌, IfOk, length};
+// The words of the input, one after the other: see FORMAT.md. At the input's end every word is 0.
+ghost use Rattle.std.specs.Prelude.{◌≡◌, ◌≤◌, IfOk, vec_len};
 
+use std::alloc::Global;
 use std::io;
-use std::io::{Input, Read};
+use std::io::BufRead;
+use tracker::{FilterSettings, TrackerConfig};
 
-// The cursor's places: how much of the text was read and how much of it is filled; the frame and the record at hand; how many differences the trace has so far.
-pub(crate) const AT: usize = 0;
+#[derive(Drop)]
+pub(crate) struct Reader<R> {
+    input: R,
+    alloc: Global,
+}
 
-pub(crate) const FILLED: usize = 1;
+impl<R: BufRead> Reader<R> {
+    pub(crate) fn new(alloc: Global, input: R) -> Self {
+        Reader { input, alloc }
+    }
 
-pub(crate) const FRAME: usize = 2;
-
-pub(crate) const RECORD: usize = 3;
-
-pub(crate) const DIFFERENCES: usize = 4;
-
-// Reads until the text is full or the input ends: how much of it was filled.
-fn read_full(rt: &impl Input, text: &mut [u8; 65536]) -> io::Result<usize>
-    ensures { IfOk result (λ n. n ≤ 65536) }
-{
-    let mut done = 0;
-    while done < 65536 {
-        let n = rt.reader().read(&mut text[done..])?;
-        if n == 0 {
-            break;
+    fn byte(&mut self) -> io::Result<Option<u8>> {
+        let byte = self.input.fill_buf()?.first().copied();
+        if byte.is_some() {
+            self.input.consume(1);
         }
-        done += n;
+        Ok(byte)
     }
-    Ok(done)
-}
 
-// The next byte, or 0 at the input's end.
-fn byte(rt: &impl Input, text: &mut [u8; 65536], c: &mut [usize; 6]) -> io::Result<u8> {
-    if c[AT] >= c[FILLED] {
-        c[FILLED] = read_full(rt, text)?;
-        c[AT] = 0;
-    }
-    let at = c[AT];
-    if at >= c[FILLED] {
-        return Ok(0);
-    }
-    if at >= 65536 {
-        return Ok(0);
-    }
-    c[AT] = at + 1;
-    Ok(text[at])
-}
-
-// What a hexadecimal digit stands for, 16 for any other byte.
-fn digit(b: u8) -> u64 {
-    if b < b'0' {
-        return 16;
-    }
-    if b <= b'9' {
-        return (b - b'0') as u64;
-    }
-    if b < b'a' {
-        return 16;
-    }
-    if b <= b'f' {
-        return (b - b'a') as u64 + 10;
-    }
-    16
-}
-
-// The next word, with the byte that ends it.
-pub(crate) fn word(rt: &impl Input, text: &mut [u8; 65536], c: &mut [usize; 6]) -> io::Result<u64> {
-    let mut w = 0u64;
-    let mut i = 0usize;
-    while i < 17 {
-        let d = digit(byte(rt, text, c)?);
-        if d == 16 {
-            return Ok(w);
+    // The next word, with the byte that ends it.
+    pub(crate) fn word(&mut self) -> io::Result<u64> {
+        let mut word = 0;
+        for _ in 0..17 {
+            let Some(digit) = self.byte()?.and_then(digit) else {
+                break;
+            };
+            word = word << 4 | digit;
         }
-        w = w << 4 | d;
-        i += 1;
+        Ok(word)
     }
-    Ok(w)
+
+    // The next word as a number, cut down to the most that can be meant.
+    pub(crate) fn few(&mut self, most: usize) -> io::Result<usize>
+        ensures { IfOk result (λ n. n ≤ most) }
+    {
+        Ok(self.word()?.min(most as u64) as usize)
+    }
+
+    fn signed(&mut self) -> io::Result<i32> {
+        Ok(words::moved_down(self.word()?))
+    }
+
+    pub(crate) fn float(&mut self) -> io::Result<f64> {
+        Ok(words::float_of(self.word()?))
+    }
+
+    fn bit(&mut self) -> io::Result<u8> {
+        Ok(self.few(1)? as u8)
+    }
+
+    // The next n floats.
+    pub(crate) fn floats(&mut self, n: usize) -> io::Result<Vec<f64>>
+        ensures { IfOk result (λ xs. vec_len xs ≡ n) }
+    {
+        let alloc = self.alloc;
+        (0..n).map(|_| self.float()).try_collect(alloc)
+    }
+
+    // The next n words, 0 or 1.
+    pub(crate) fn bits(&mut self, n: usize) -> io::Result<Vec<u8>>
+        ensures { IfOk result (λ xs. vec_len xs ≡ n) }
+    {
+        let alloc = self.alloc;
+        (0..n).map(|_| self.bit()).try_collect(alloc)
+    }
+
+    // The ReID matrix that the host lends to step 3.
+    pub(crate) fn matrix(&mut self) -> io::Result<Vec<f64>> {
+        let candidates = self.few(32)?;
+        let old = self.few(64)?;
+        self.floats(candidates * old)
+    }
+
+    // A tracker's settings.
+    pub(crate) fn settings(&mut self) -> io::Result<TrackerConfig> {
+        Ok(TrackerConfig {
+            points: self.few(1000)?,
+            dims: self.few(1000)?,
+            capacity: self.few(1000)?,
+            past_detections_length: self.few(1000)?,
+            hit_counter_max: self.signed()?,
+            initialization_delay: self.signed()?,
+            pointwise_hit_counter_max: self.few(100000)? as u32,
+            reid_hit_counter_max: reid_counter(self.word()?),
+            distance_threshold: self.float()?,
+            detection_threshold: self.float()?,
+            reid_distance_threshold: self.float()?,
+            has_reid_distance: self.word()? != 0,
+            filter: self.filter_settings()?,
+        })
+    }
+
+    fn filter_settings(&mut self) -> io::Result<FilterSettings> {
+        Ok(FilterSettings {
+            r: self.float()?,
+            q: self.float()?,
+            pos_variance: self.float()?,
+            pos_vel_covariance: self.float()?,
+            vel_variance: self.float()?,
+        })
+    }
 }
 
-// The next word as a number, cut down to the most that can be meant.
-pub(crate) fn few(
-    rt: &impl Input,
-    text: &mut [u8; 65536],
-    c: &mut [usize; 6],
-    most: usize,
-) -> io::Result<usize>
-    ensures { IfOk result (λ n. n ≤ most) }
-{
-    let w = word(rt, text, c)?;
-    if w < most as u64 {
-        return Ok(w as usize);
+// What a hexadecimal digit stands for.
+fn digit(byte: u8) -> Option<u64> {
+    match byte {
+        b'0'..=b'9' => Some(u64::from(byte - b'0')),
+        b'a'..=b'f' => Some(u64::from(byte - b'a') + 10),
+        _ => None,
     }
-    Ok(most)
 }
 
-// The product of two numbers, 0 where one is more than can be meant.
-pub(crate) fn area(a: usize, b: usize) -> usize
-    ensures { result ≤ 4096 }
-{
-    if a > 64 {
-        return 0;
-    }
-    if b > 64 {
-        return 0;
-    }
-    a * b
-}
-
-// The next n floats, in front of zeros.
-pub(crate) fn floats(
-    rt: &impl Input,
-    text: &mut [u8; 65536],
-    c: &mut [usize; 6],
-    n: usize,
-) -> io::Result<[f64; 4096]>
-    requires { n ≤ 4096 }
-    ensures { IfOk result (λ xs. 4096 ≡ length xs) }
-{
-    let mut out = [0.0; 4096];
-    let mut i = 0;
-    while i < n {
-        out[i] = words::float_of(word(rt, text, c)?);
-        i += 1;
-    }
-    Ok(out)
-}
-
-// The next n words, 0 or 1, in front of zeros.
-pub(crate) fn bytes(
-    rt: &impl Input,
-    text: &mut [u8; 65536],
-    c: &mut [usize; 6],
-    n: usize,
-) -> io::Result<[u8; 64]>
-    requires { n ≤ 64 }
-    ensures { IfOk result (λ xs. 64 ≡ length xs) }
-{
-    let mut out = [0u8; 64];
-    let mut i = 0;
-    while i < n {
-        out[i] = few(rt, text, c, 1)? as u8;
-        i += 1;
-    }
-    Ok(out)
+fn reid_counter(word: u64) -> Option<i32> {
+    (word != 0).then(|| words::moved_down(word))
 }

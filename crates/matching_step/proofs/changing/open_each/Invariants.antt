@@ -1,0 +1,13 @@
+-- At turn i the first i leftovers are opened, and their slots put back.
+use Rattle.std.proofs.Common.{take}
+use Rattle.passes.specs.Checks.{lent_frame}
+use Rattle.passes.specs.Passes.{numbers}
+use Rattle.matching_step.proofs.Opening.{opens}
+use Rattle.matching_step.proofs.PutBack.{found, Put}
+use Rattle.matching_step.proofs.changing.open_each.Given as goal
+
+abbrev pub invariant-loop-d : goal.invariant-loop-d
+invariant-loop-d l =
+    let c = l.settings.config in
+    Put c l.fn.records l.fn.s
+    (opens c (lent_frame l.f) l.fn.s (take l.d-index (numbers l.left)) (found c l.fn.records l.fn.s l.fn.counts)) l.records l.counts l.s

@@ -1,6 +1,0 @@
--- `raceway::telling::active` is safe and ends: it counts to 8.
-use Rattle.std.proofs.Common.{◌-◌}
-use Rattle.raceway.proofs.telling.active.Given as goal
-
-abbrev pub decreases-loop-i : goal.decreases-loop-i
-decreases-loop-i g l = 8 - l.i

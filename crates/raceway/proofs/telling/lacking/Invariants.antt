@@ -1,6 +1,0 @@
--- `raceway::telling::lacking` is safe and ends: it counts to 8.
-use Rattle.std.proofs.Common.{◌-◌}
-use Rattle.raceway.proofs.telling.lacking.Given as goal
-
-abbrev pub decreases-loop-i : goal.decreases-loop-i
-decreases-loop-i g l = 8 - l.i

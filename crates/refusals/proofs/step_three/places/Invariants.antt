@@ -1,9 +1,0 @@
--- `refusals::step_three::places` is safe and ends: it counts to 64, the places of its array, whose length a store keeps.
-use Rattle.std.proofs.Common.{◌≡◌, ◌-◌, length}
-use Rattle.refusals.proofs.step_three.places.Given as goal
-
-abbrev pub invariant-loop-i : goal.invariant-loop-i
-invariant-loop-i l = length l.at ≡ 64
-
-abbrev pub decreases-loop-i : goal.decreases-loop-i
-decreases-loop-i l = 64 - l.i

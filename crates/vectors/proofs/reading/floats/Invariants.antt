@@ -1,9 +1,0 @@
--- `vectors::reading::floats` is safe and ends: a float is read for each of n places.
-use Rattle.std.proofs.Common.{◌-◌, ◌≡◌, length}
-use Rattle.vectors.proofs.reading.floats.Given as goal
-
-abbrev pub invariant-loop-i : goal.invariant-loop-i
-invariant-loop-i g l = 4096 ≡ length l.out
-
-abbrev pub decreases-loop-i : goal.decreases-loop-i
-decreases-loop-i g l = l.n - l.i
