@@ -8,7 +8,7 @@ use lib.ListN.{length}
 use Rattle.laws.specs.Every.{Every}
 use Rattle.laws.specs.Lists.{EachBelow}
 use Rattle.laws.specs.Turns.{through}
-use Rattle.laws.proofs.Every.{every_keep, every_below, each_padded}
+use Rattle.laws.proofs.Every.{every_at, every_keep, every_below, each_padded}
 use Rattle.laws.proofs.Through.{through_keep}
 use Rattle.matching.specs.Greedy.{Pick}
 use Rattle.matching.specs.Lent.{picks_of, picked}
@@ -30,8 +30,8 @@ use Rattle.matching_step.specs.Step.{State, matrix_of, first_hits, second_hits, 
 use Rattle.matching_step.proofs.Again.{all_counted, hits_again}
 use Rattle.matching_step.proofs.Deciding.{few_hits}
 use Rattle.matching_step.proofs.Hitting.{Standing, stands_first, hits_stand, hits_permanent}
-use Rattle.matching_step.proofs.Opening.{opens_again}
-use Rattle.matching_step.proofs.PutBack.{found, Put, put_back}
+use Rattle.matching_step.proofs.Opening.{opens_length, opens_sized, opens_again}
+use Rattle.matching_step.proofs.PutBack.{found, Put, put_back, put_long}
 
 module _ (t : Table) (n : ℕ) (f : Frame) where
   -- ---- the picks and the leftovers are in their ranges
@@ -135,6 +135,15 @@ module _ (t : Table) (s : List Float) (f : Frame) (ready : Ready t (length s) (l
       put_third put made floats =
           rw (decided, numbers-numbers_of (to_open t n f)) at
           (opens_again put stands_after_second.sized (all_counted stands_after_second put) f (numbers d.left) made floats)
+
+      pub whole_length : Put t.config t.records s (after_opening t s n f) rs m g → length g ≡ length s
+      unfolding after_opening
+      whole_length put =
+          let opens = opens_length t.config f s (to_open t n f) (after_second t s n f) in
+          let sized =
+          opens_sized t.config f s ready.fits (to_open t n f) (after_second t s n f) (λ i h. every_at i 0 (left_every t n f) h)
+          (rw stands_after_second.long ready.room) stands_after_second.sized in
+          put_long put sized (rw (opens, stands_after_second.long) ready.room)
 
       pub table_is : Put t.config t.records s (after_opening t s n f) rs m g → {l : Lists} → l ≡ lists_after t d.first d.second
           → ◌≡◌ {A = Table} (record { records = rs; config = t.config; counts = m; phase = Reid; lists = l }) (match_table t s n f)

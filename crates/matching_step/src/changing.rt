@@ -1,5 +1,5 @@
 // Rules 45 and 46 on a table's records and floats: the hits of a pass in pick order, and the openings by ascending number.
-// What fits a frame and what holds of picks stays in the clauses: it ties them to the settings and to the table at hand, so that a struct for it would hold all of these. Records go by value, the table's own array and a count: fixed memory is a rule of the project.
+// What fits a frame and what holds of picks stays in the clauses: it ties them to the settings and to the table at hand, so that a struct for it would hold all of these. Records are lent as `Stepped`, the table's own array and its counts: fixed memory is a rule of the project, and a record is not copied for each pass.
 ghost use Rattle.std.specs.Prelude.{◌≡◌, ◌+◌, ◌*◌, ◌<◌, ◌≤◌, length, take, drop};
 ghost use Rattle.std.proofs.Math.Seq.{paste};
 ghost use Rattle.laws.specs.Turns.{through};
@@ -131,47 +131,44 @@ fn count_opening(counts: Counts, took: bool) -> Counts
 // The hits of a pass, in pick order.
 pub fn hit_each(
     settings: Settings,
-    mut records: [TrackedObject; 64],
-    mut counts: Counts,
+    stepped: &mut Stepped,
     s: &mut [f64],
     f: LentFrame<'_>,
     picks: &Picks,
-) -> Stepped
-    requires { Fits settings.config (lent_frame f) × Holds settings.config counts.records records (length s.old) × (length f.distances.now ≡ length f.has_scores.now * counts.records) × (picks.now.count ≤ 32) × EachBelow (length f.has_scores.now) picks.now.count picks.now.rows × EachBelow counts.records picks.now.count picks.now.cols × (counts.permanent ≤ 3000000000) }
-    ensures value { result ≡ stepped_of (through (hit_one settings.config (lent_frame f.entry) counts.records) (picked picks.now) (record { slots = slots (block_size settings.config) records s.old counts.records; counts = counts })) records }
-    ensures s_after { s.new ≡ floats_back (block_size settings.config) (through (hit_one settings.config (lent_frame f.entry) counts.records) (picked picks.now) (record { slots = slots (block_size settings.config) records s.old counts.records; counts = counts })).slots s.old }
+)
+    requires { Fits settings.config (lent_frame f) × Holds settings.config stepped.old.counts.records stepped.old.records (length s.old) × (length f.distances.now ≡ length f.has_scores.now * stepped.old.counts.records) × (picks.now.count ≤ 32) × EachBelow (length f.has_scores.now) picks.now.count picks.now.rows × EachBelow stepped.old.counts.records picks.now.count picks.now.cols × (stepped.old.counts.permanent ≤ 3000000000) }
+    ensures value { stepped.new ≡ stepped_of (through (hit_one settings.config (lent_frame f.entry) stepped.old.counts.records) (picked picks.now) (record { slots = slots (block_size settings.config) stepped.old.records s.old stepped.old.counts.records; counts = stepped.old.counts })) stepped.old.records }
+    ensures s_after { s.new ≡ floats_back (block_size settings.config) (through (hit_one settings.config (lent_frame f.entry) stepped.old.counts.records) (picked picks.now) (record { slots = slots (block_size settings.config) stepped.old.records s.old stepped.old.counts.records; counts = stepped.old.counts })).slots s.old }
 {
-    let n = counts.records;
+    let n = stepped.counts.records;
     for i in 0..picks.count {
         let d = picks.rows[i];
         let k = picks.cols[i];
         let distance = f.distances[d * n + k];
-        let record = &mut records[k];
-        let changed = hit_at(settings, *record, s, k, f, d, distance, counts.permanent);
+        let next_id = stepped.counts.permanent;
+        let record = &mut stepped.records[k];
+        let changed = hit_at(settings, *record, s, k, f, d, distance, next_id);
         *record = changed.object;
-        counts = issue(counts, changed.issued);
+        stepped.counts = issue(stepped.counts, changed.issued);
     }
-    Stepped { records, counts }
 }
 
 // The leftover detections open records at the table's end, by ascending number.
 pub fn open_each(
     settings: Settings,
-    mut records: [TrackedObject; 64],
-    mut counts: Counts,
+    stepped: &mut Stepped,
     s: &mut [f64],
     f: LentFrame<'_>,
     left: &Numbers<64>,
-) -> Stepped
-    requires { Fits settings.config (lent_frame f) × (counts.records + left.now.count ≤ 64) × ((counts.records + left.now.count) * block_size settings.config ≤ length s.old) × EachBelow (length f.has_scores.now) left.now.count left.now.at × (counts.opened ≤ 3000000000) × (counts.permanent ≤ 3000000000) × (counts.global ≤ 3000000000) × (counts.initializing ≤ 3000000000) }
-    ensures value { result ≡ stepped_of (through (open_one settings.config (lent_frame f.entry) s.old) (numbers left.now) (record { slots = slots (block_size settings.config) records s.old counts.records; counts = counts })) records }
-    ensures s_after { s.new ≡ floats_back (block_size settings.config) (through (open_one settings.config (lent_frame f.entry) s.old) (numbers left.now) (record { slots = slots (block_size settings.config) records s.old counts.records; counts = counts })).slots s.old }
+)
+    requires { Fits settings.config (lent_frame f) × (stepped.old.counts.records + left.now.count ≤ 64) × ((stepped.old.counts.records + left.now.count) * block_size settings.config ≤ length s.old) × EachBelow (length f.has_scores.now) left.now.count left.now.at × (stepped.old.counts.opened ≤ 3000000000) × (stepped.old.counts.permanent ≤ 3000000000) × (stepped.old.counts.global ≤ 3000000000) × (stepped.old.counts.initializing ≤ 3000000000) }
+    ensures value { stepped.new ≡ stepped_of (through (open_one settings.config (lent_frame f.entry) s.old) (numbers left.now) (record { slots = slots (block_size settings.config) stepped.old.records s.old stepped.old.counts.records; counts = stepped.old.counts })) stepped.old.records }
+    ensures s_after { s.new ≡ floats_back (block_size settings.config) (through (open_one settings.config (lent_frame f.entry) s.old) (numbers left.now) (record { slots = slots (block_size settings.config) stepped.old.records s.old stepped.old.counts.records; counts = stepped.old.counts })).slots s.old }
 {
     for d in &left.at[..left.count] {
-        let k = counts.records;
-        let changed = open_at(settings, s, k, f, *d, counts);
-        records[k] = changed.object;
-        counts = count_opening(counts, changed.issued);
+        let k = stepped.counts.records;
+        let changed = open_at(settings, s, k, f, *d, stepped.counts);
+        stepped.records[k] = changed.object;
+        stepped.counts = count_opening(stepped.counts, changed.issued);
     }
-    Stepped { records, counts }
 }

@@ -58,16 +58,15 @@ fn match_step(t: &Table, s: &mut [f64], f: LentFrame<'_>, decided: &Decided) -> 
 {
     let config = t.config;
     let settings = Settings { config };
-    let one = changing::hit_each(settings, t.records, t.counts, s, f, &decided.first);
-    let two = changing::hit_each(settings, one.records, one.counts, s, f, &decided.second);
-    let Stepped { records, counts } = changing::open_each(
-        settings,
-        two.records,
-        two.counts,
-        s,
-        f,
-        &decided.left,
-    );
+    let records = t.records;
+    let mut stepped = Stepped {
+        records,
+        counts: t.counts,
+    };
+    changing::hit_each(settings, &mut stepped, s, f, &decided.first);
+    changing::hit_each(settings, &mut stepped, s, f, &decided.second);
+    changing::open_each(settings, &mut stepped, s, f, &decided.left);
+    let Stepped { records, counts } = stepped;
     let lists = lists_after(t, &decided.first, &decided.second);
     Table {
         records,

@@ -15,7 +15,7 @@ use Rattle.parts.specs.Layout.{block_size}
 use Rattle.table.specs.Making.{zero_object}
 use Rattle.table.specs.Slots.{Slot, slots, objects_of, records_back, floats_back, AllInRange}
 use Rattle.table.proofs.Ranged.{ranged_slots}
-use Rattle.table.proofs.SlotLaws.{slots_back, records_front, records_at, records_again, floats_again}
+use Rattle.table.proofs.SlotLaws.{slots_back, records_length, records_front, records_at, records_again, floats_again}
 use Rattle.table.specs.declared.Kept.{Kept}
 use Rattle.predict.specs.declared.Sort.{Sort}
 use Rattle.predict.specs.Step.{belongs, kept_of, kept_records, kept_floats, places_of, each_predicted}
@@ -28,6 +28,13 @@ module _ (c : TrackerConfig) (n : ℕ) (records : List TrackedObject) (s : List 
     (kept : k ≡ kept_records c n records s) (floats : f ≡ kept_floats c n records s) where
   pub few : k.count ≤ n
   few = rw kept (kept_most c records s n)
+
+  -- they stand in the array, which keeps its length
+  pub front_few : n ≤ 64 → n ≤ length records → (k.count ≤ 64) × (k.count ≤ length k.records) × (length (take k.count k.records) ≤ 64)
+  front_few most fits =
+      let long : length k.records ≡ length records = rw kept (records_length (kept_of c n records s) records (le_trans (kept_most c records s n) fits)) in
+      let inside : k.count ≤ length k.records = omega (arith, few, long) in
+      (omega (arith, few), inside, rw (length-take-le k.count k.records inside) (omega (arith, few)))
 
   pub floats_room : k.count * block_size c ≤ length f
   floats_room =

@@ -1,5 +1,5 @@
 // Step 1: drop, sort out, predict: docs/RULES.md, rules 30 to 33.
-// Where records change they go by value, the table's own array and a count: fixed memory is a rule of the project, and the definitions put them back into that array.
+// Where records change, the table's own array is lent with its count: fixed memory is a rule of the project, and the definitions put them back into that array.
 #![tactic(auto)]
 
 ghost use Rattle.std.specs.Prelude.{◌≡◌, ◌*◌, ◌≤◌, length};
@@ -52,16 +52,16 @@ fn stands_in(config: TrackerConfig, sort: Sort, o: &TrackedObject) -> bool
 }
 
 // The records that stay move down in order, and their blocks with them.
-fn drop_gone(settings: Settings, records: [TrackedObject; 64], n: usize, s: &mut [f64]) -> Kept
-    requires { (n ≤ 64) × (n * block_size settings.config ≤ length s.old) }
-    ensures value { result ≡ kept_records settings.config n records s.old }
-    ensures s_after { s.new ≡ kept_floats settings.config n records s.old }
+fn drop_gone(settings: Settings, kept: &mut Kept, s: &mut [f64])
+    requires { (kept.old.count ≤ 64) × (kept.old.count * block_size settings.config ≤ length s.old) }
+    ensures value { kept.new ≡ kept_records settings.config kept.old.count kept.old.records s.old }
+    ensures s_after { s.new ≡ kept_floats settings.config kept.old.count kept.old.records s.old }
 {
     let mut stays = [false; 64];
-    for i in 0..n {
-        stays[i] = !is_gone(settings.config, &records[i]);
+    for i in 0..kept.count {
+        stays[i] = !is_gone(settings.config, &kept.records[i]);
     }
-    staying::move_staying(settings, records, n, s, stays)
+    staying::move_staying(settings, kept, s, stays);
 }
 
 // The places of the records that stand in a list, ascending.
@@ -80,22 +80,16 @@ fn sort_out(config: TrackerConfig, sort: Sort, records: &[TrackedObject]) -> Num
 }
 
 // Each of the first n records and its block, predicted.
-fn predict_each(
-    settings: Settings,
-    mut records: [TrackedObject; 64],
-    n: usize,
-    s: &mut [f64],
-) -> [TrackedObject; 64]
-    requires { (n ≤ 64) × (n * block_size settings.config ≤ length s.old) × AllInRange settings.config n records }
-    ensures value { result ≡ records_back (each_predicted settings.config (slots (block_size settings.config) records s.old n)) records }
-    ensures s_after { s.new ≡ floats_back (block_size settings.config) (each_predicted settings.config (slots (block_size settings.config) records s.old n)) s.old }
+fn predict_each(settings: Settings, records: &mut [TrackedObject; 64], n: usize, s: &mut [f64])
+    requires { (n ≤ 64) × (n * block_size settings.config ≤ length s.old) × AllInRange settings.config n records.old }
+    ensures records_after { records.new ≡ records_back (each_predicted settings.config (slots (block_size settings.config) records.old s.old n)) records.old }
+    ensures s_after { s.new ≡ floats_back (block_size settings.config) (each_predicted settings.config (slots (block_size settings.config) records.old s.old n)) s.old }
 {
     let size = block::layout_of(settings).size;
     for i in 0..n {
         let start = i * size;
         records[i] = tracked_object::predict(settings, records[i], &mut s[start..start + size]);
     }
-    records
 }
 
 // Step 1 on a table that passed its checks.
@@ -106,7 +100,12 @@ pub fn predict_table(t: Table, s: &mut [f64]) -> Table
 {
     let config = t.config;
     let settings = Settings { config };
-    let kept = drop_gone(settings, t.records, t.counts.records, s);
+    let records = t.records;
+    let mut kept = Kept {
+        records,
+        count: t.counts.records,
+    };
+    drop_gone(settings, &mut kept, s);
     let n = kept.count;
     let in_table = &kept.records[..n];
     let lists = Lists {
@@ -115,8 +114,9 @@ pub fn predict_table(t: Table, s: &mut [f64]) -> Table
         dead: sort_out(config, Sort::Dead, in_table),
         ..making::no_lists()
     };
+    predict_each(settings, &mut kept.records, n, s);
     Table {
-        records: predict_each(settings, kept.records, n, s),
+        records: kept.records,
         counts: Counts {
             records: n,
             frames: t.counts.frames + 1,

@@ -1,13 +1,28 @@
 // The host's distances: |dx| + |dy| between positions, of detections and of records. A record's position is the first two floats of its block.
+ghost use Rattle.std.specs.Prelude.{◌≤◌, ◌<◌, IfOk, vec_len};
+
 use std::alloc::{AllocError, Global};
 use tracker::Table;
 
 // The floats of a record's block.
 const BLOCK: usize = 15;
 
-// The block of the record at this place; empty past the storage.
-fn block(storage: &[f64], place: usize) -> &[f64] {
-    storage.chunks(BLOCK).nth(place).unwrap_or(&[])
+// The tracker has room for 8 records, so that no matrix has more rows or columns.
+const MOST: usize = 8;
+
+// The i-th of the parts of one size; empty past the end.
+fn part(s: &[f64], size: usize, i: usize) -> &[f64]
+    requires { 0 < size }
+{
+    s.chunks(size).nth(i).unwrap_or(&[])
+}
+
+// The block of the record at the i-th of these places; empty past the places and past the storage.
+fn block<'a>(storage: &'a [f64], places: &[usize], i: usize) -> &'a [f64] {
+    match places.get(i) {
+        Some(place) => part(storage, BLOCK, *place),
+        None => &[],
+    }
 }
 
 // |dx| + |dy| between two positions.
@@ -22,14 +37,20 @@ pub(crate) fn detections_by_records(
     points: &[f64],
     table: &Table,
     storage: &[f64],
-) -> Result<Vec<f64>, AllocError> {
-    let mut distances = Vec::new(alloc);
-    for point in points.chunks(2) {
-        for record in storage.chunks(BLOCK).take(table.counts.records) {
-            distances.push(apart(point, record))?;
-        }
+) -> Result<Vec<f64>, AllocError>
+    ensures { IfOk result (λ distances. vec_len distances ≤ 64) }
+{
+    let rows = (points.len() / 2).min(MOST);
+    let columns = table.counts.records.min(MOST);
+    if columns == 0 {
+        return Ok(Vec::new(alloc));
     }
-    Ok(distances)
+    (0..rows * columns)
+        .map(|k| apart(
+            part(points, 2, k / columns),
+            part(storage, BLOCK, k % columns),
+        ))
+        .collect(alloc)
 }
 
 // For step 3: a row for each candidate, a column for each old one, at the places that step 2 listed.
@@ -37,14 +58,20 @@ pub(crate) fn candidates_by_old_ones(
     alloc: Global,
     table: &Table,
     storage: &[f64],
-) -> Result<Vec<f64>, AllocError> {
+) -> Result<Vec<f64>, AllocError>
+    ensures { IfOk result (λ distances. vec_len distances ≤ 64) }
+{
     let candidates = &table.lists.candidates;
     let old = &table.lists.old;
-    let mut distances = Vec::new(alloc);
-    for candidate in candidates.at.iter().take(candidates.count) {
-        for place in old.at.iter().take(old.count) {
-            distances.push(apart(block(storage, *candidate), block(storage, *place)))?;
-        }
+    let rows = candidates.count.min(MOST);
+    let columns = old.count.min(MOST);
+    if columns == 0 {
+        return Ok(Vec::new(alloc));
     }
-    Ok(distances)
+    (0..rows * columns)
+        .map(|k| {
+            let candidate = block(storage, &candidates.at, k / columns);
+            apart(candidate, block(storage, &old.at, k % columns))
+        })
+        .collect(alloc)
 }

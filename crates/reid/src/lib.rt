@@ -12,7 +12,7 @@ ghost use Rattle.reid.specs.Step.{merges, reid_table, reid_floats, Meets, Ready}
 use matching::Picks;
 use matching::matrix::LentMatrix;
 use parts::settings::Settings;
-use table::{Counts, Phase, Table, making};
+use table::{Counts, Kept, Phase, Table, making};
 
 // The picks of step 3, by places in the table.
 fn decide(t: &Table, distances: &[f64]) -> Picks
@@ -38,8 +38,9 @@ pub fn reid_table(t: Table, s: &mut [f64], distances: &[f64]) -> Table
     let settings = Settings { config: t.config };
     let n = t.counts.records;
     let places = decide(&t, distances);
-    let merged = merging::merge_each(settings, t.records, n, s, &places);
-    let kept = merging::drop_absorbed(settings, merged, n, s, &places);
+    let records = merging::merge_each(settings, t.records, n, s, &places);
+    let mut kept = Kept { records, count: n };
+    merging::drop_absorbed(settings, &mut kept, s, &places);
     let records = kept.records;
     Table {
         records,

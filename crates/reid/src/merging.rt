@@ -1,5 +1,5 @@
 // Rules 61 and 63 on a table's records and floats: the merges in pick order, and the candidates picked leaving.
-// Records go by value, the table's own array and a count: fixed memory is a rule of the project. That they are in range stays in the clauses: a host may put any record into a table.
+// Records stand in the table's own array with a count: fixed memory is a rule of the project. `drop_absorbed` is lent them; `merge_each` takes them by value, since the proof needs that each history has 8 places, which is known of a value and not of what is lent. That they are in range stays in the clauses: a host may put any record into a table.
 ghost use Rattle.std.specs.Prelude.{◌≡◌, map, ◌+◌, ◌*◌, ◌≤◌, length, take, drop};
 ghost use Rattle.std.proofs.Math.Seq.{paste};
 ghost use Rattle.laws.specs.Float64.{f0};
@@ -92,21 +92,15 @@ pub fn merge_each(
 }
 
 // The records that stay move down in order, and their blocks with them: all but the candidates picked, even where one is an old one too.
-pub fn drop_absorbed(
-    settings: Settings,
-    records: [TrackedObject; 64],
-    n: usize,
-    s: &mut [f64],
-    places: &Picks,
-) -> Kept
-    requires { (n ≤ 64) × (n * block_size settings.config ≤ length s.old) × (places.now.count ≤ 32) }
-    ensures value { result ≡ kept_back (staying_at (take places.now.count places.now.rows) (slots (block_size settings.config) records s.old n)) records }
-    ensures s_after { s.new ≡ floats_back (block_size settings.config) (staying_at (take places.now.count places.now.rows) (slots (block_size settings.config) records s.old n)) s.old }
+pub fn drop_absorbed(settings: Settings, kept: &mut Kept, s: &mut [f64], places: &Picks)
+    requires { (kept.old.count ≤ 64) × (kept.old.count * block_size settings.config ≤ length s.old) × (places.now.count ≤ 32) }
+    ensures value { kept.new ≡ kept_back (staying_at (take places.now.count places.now.rows) (slots (block_size settings.config) kept.old.records s.old kept.old.count)) kept.old.records }
+    ensures s_after { s.new ≡ floats_back (block_size settings.config) (staying_at (take places.now.count places.now.rows) (slots (block_size settings.config) kept.old.records s.old kept.old.count)) s.old }
 {
     let leaving = &places.rows[..places.count];
     let mut stays = [false; 64];
-    for i in 0..n {
+    for i in 0..kept.count {
         stays[i] = !leaving.contains(&i);
     }
-    staying::move_staying(settings, records, n, s, stays)
+    staying::move_staying(settings, kept, s, stays);
 }

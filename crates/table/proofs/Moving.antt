@@ -17,7 +17,7 @@ use Rattle.parts.specs.declared.TrackedObject.{TrackedObject}
 use Rattle.table.specs.declared.Kept.{Kept}
 use Rattle.table.specs.Making.{zero_object}
 use Rattle.table.specs.Slots.{Slot, slots_where, kept_back, blocks_of, floats_back}
-use Rattle.table.proofs.SlotLaws.{Sized, slot_at, block_fits, block_whole, records_put, floats_length, floats_put, floats_behind}
+use Rattle.table.proofs.SlotLaws.{Sized, slot_at, block_fits, block_whole, records_length, records_behind, records_put, floats_length, floats_put, floats_behind}
 
 module _ (p : ℕ → Bool) (b : ℕ) (records : List TrackedObject) (s : List Float) (i : ℕ) where
   abbrev pub moved_down : List Slot
@@ -60,6 +60,14 @@ module _ {p : ℕ → Bool} {b : ℕ} {records : List TrackedObject} {s : List F
   moves_down e enough h =
       let fits = block_fits_in s i e enough h in
       (mul-le-mul_right b m.few, rw (m.blocks, moved_length p b records s i (omega arith)) fits)
+
+  -- the array keeps its length
+  pub long : i ≤ length records → length kept.records ≡ length records
+  long h = rw m.objects (records_length (slots_where p b records s i) records (le_trans (moved_most p b records s i) h))
+
+  -- the record at i is still where it was
+  pub unmoved : get_or kept.records i zero_object ≡ get_or records i zero_object
+  unmoved = rw m.objects (records_behind (slots_where p b records s i) records i zero_object (moved_most p b records s i))
 
   -- the record at i leaves
   pub leaves : p i ≡ false → Moved p b records s (i + 1) kept f

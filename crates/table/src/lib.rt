@@ -50,7 +50,7 @@ pub struct Table {
     pub lists: Lists,
 }
 
-// The records of a table after some left, and how many stay. No heap: an array and a count.
+// The records at hand of a table, and how many: as a step finds them, and after some left. No heap: an array and a count.
 #[derive(Clone, Copy)]
 pub struct Kept {
     pub records: [TrackedObject; 64],

@@ -6,7 +6,7 @@ use parts::TrackerConfig;
 
 // Absent, or in the range.
 #[tactic(auto, unfolding(crate::specs::Ranges::optional_between))]
-pub(crate) fn is_optional_between(low: i32, counter: Option<i32>, high: i32) -> bool
+pub fn is_optional_between(low: i32, counter: Option<i32>, high: i32) -> bool
     ensures { result ≡ optional_between low counter high }
 {
     counter.is_none_or(|z| (low..=high).contains(&z))

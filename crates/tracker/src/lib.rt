@@ -2,7 +2,7 @@
 #![tactic(auto)]
 
 ghost use Rattle.std.specs.Prelude.{◌≡◌, length};
-ghost use Rattle.table.specs.Making.{made, answer_of};
+ghost use Rattle.table.specs.Making.{made};
 ghost use Rattle.passes.specs.Checks.{lent_frame};
 ghost use Rattle.matching_step.specs.Step.{matched_floats};
 ghost use Rattle.tracker.specs.Calls.{answer_from, predict_answer, predict_storage, match_answer, match_pairs, reid_answer, reid_storage, reid_active, total_answer, current_answer};
@@ -21,30 +21,20 @@ pub fn new(config: TrackerConfig, storage: &[f64]) -> Answer
     table::making::make(config, storage.len())
 }
 
-// The table as it was, and why.
-fn refused(refusal: Refusal, table: Table) -> Answer
-    ensures { result ≡ answer_of (Some refusal) table }
-{
-    Answer {
-        refusal: Some(refusal),
-        count: 0,
-        table,
-    }
-}
-
 // Step 1: drop, sort out, predict; or refusal 5, 4, 6 or 7 and nothing changed.
 #[tactic(auto, using(crate::proofs::Readiness::ready, table::proofs::Due::checked_refused, table::proofs::Due::checked_passed), unfolding(crate::specs::Calls::predict_answer, crate::specs::Calls::predict_storage))]
-pub fn predict(t: Table, storage: &mut [f64]) -> Answer
+pub fn predict(mut t: Table, storage: &mut [f64]) -> Answer
     ensures value { result ≡ predict_answer t storage.old }
     ensures storage_after { storage.new ≡ predict_storage t storage.old }
 {
-    if let Err(refusal) = table::making::predict_refusal(&t, storage.len()) {
-        return refused(refusal, t);
+    let refusal = table::making::predict_refusal(&t, storage.len()).err();
+    if refusal.is_none() {
+        t = predict::predict_table(t, storage);
     }
     Answer {
-        refusal: None,
+        refusal,
         count: 0,
-        table: predict::predict_table(t, storage),
+        table: t,
     }
 }
 
@@ -67,21 +57,21 @@ pub fn match_detections(
 
 // Step 3: ReID and the active list; or refusal 5, 4, 6, 10 or 11 and nothing changed.
 #[tactic(auto, using(crate::proofs::Readiness::reid_ready, crate::proofs::Listing::listed_front, reid::proofs::StepLaws::records_fall, table::proofs::Due::checked_refused, table::proofs::Due::checked_passed), unfolding(crate::specs::Calls::reid_answer, crate::specs::Calls::reid_storage, crate::specs::Calls::reid_active))]
-pub fn reid(t: Table, storage: &mut [f64], distances: &[f64], active: &mut [u32]) -> Answer
+pub fn reid(mut t: Table, storage: &mut [f64], distances: &[f64], active: &mut [u32]) -> Answer
     ensures value { result ≡ reid_answer t storage.old distances.now (length active.old) }
     ensures storage_after { storage.new ≡ reid_storage t storage.old distances.now (length active.old) }
     ensures active_after { active.new ≡ reid_active t storage.old distances.now active.old }
 {
-    let due = reid::checks::reid_refusal(&t, storage.len(), distances.len(), active.len());
-    if let Err(refusal) = due {
-        return refused(refusal, t);
+    let due = reid::checks::reid_refusal(&t, storage.len(), distances.len(), active.len()).err();
+    let mut count = 0;
+    if due.is_none() {
+        t = reid::reid_table(t, storage, distances);
+        count = reid::active::list_active(&t.records[..t.counts.records], active);
     }
-    let merged = reid::reid_table(t, storage, distances);
-    let count = reid::active::list_active(&merged.records[..merged.counts.records], active);
     Answer {
-        refusal: None,
+        refusal: due,
         count,
-        table: merged,
+        table: t,
     }
 }
 
@@ -113,5 +103,6 @@ pub fn current_object_count(t: Table) -> Result<usize, Refusal>
     if !table::wholeness::is_whole(&t) {
         return Err(Refusal::TableNotWhole);
     }
-    Ok(reid::active::active_count(&t.records[..t.counts.records]))
+    let active = reid::active::active_count(&t.records[..t.counts.records]);
+    Ok(active)
 }

@@ -2,7 +2,7 @@
 use crate::lent::Shape;
 use crate::reading::Reader;
 use parts::TrackedObject;
-use std::io::BufRead;
+use std::io::Read;
 use std::{fmt, io};
 use tracker::{Pair, Refusal, Table};
 
@@ -26,24 +26,24 @@ impl fmt::Display for Difference {
     }
 }
 
-// The traces, the frame and the entry at hand, and how the trace at hand differs so far.
+// The traces, where the first difference is printed, the frame and the entry at hand, and how often the trace at hand differs so far.
 #[derive(Drop)]
-pub(crate) struct Trace<R> {
+pub(crate) struct Trace<'a, R, P> {
     pub(crate) reader: Reader<R>,
+    rt: &'a P,
     pub(crate) frame: usize,
     entry: usize,
     pub(crate) differences: u64,
-    pub(crate) first: Option<Difference>,
 }
 
-impl<R: BufRead> Trace<R> {
-    pub(crate) fn new(reader: Reader<R>) -> Self {
+impl<'a, R: Read, P: Print> Trace<'a, R, P> {
+    pub(crate) fn new(rt: &'a P, reader: Reader<R>) -> Self {
         Trace {
             reader,
+            rt,
             frame: 0,
             entry: 0,
             differences: 0,
-            first: None,
         }
     }
 
@@ -51,40 +51,39 @@ impl<R: BufRead> Trace<R> {
     pub(crate) fn begin(&mut self) {
         self.frame = 0;
         self.differences = 0;
-        self.first = None;
     }
 
-    // All differences are counted, up to 1,000,000,000, and the first is kept.
-    pub(crate) fn meet(&mut self, name: &'static str, expected: u64, got: u64) {
+    // All differences are counted, up to 1,000,000,000, and the first is printed as soon as it is met.
+    pub(crate) fn meet(&mut self, name: &'static str, expected: u64, got: u64) -> io::Result<()> {
         if expected == got {
-            return;
+            return Ok(());
         }
-        if self.first.is_none() {
-            self.first = Some(Difference {
+        if self.differences == 0 {
+            let first = Difference {
                 frame: self.frame,
                 entry: self.entry,
                 name,
                 expected,
                 got,
-            });
+            };
+            print!(self.rt; "first {first}; ")?;
         }
         if self.differences < 1000000000 {
             self.differences += 1;
         }
+        Ok(())
     }
 
     // A number, held to the next word.
     pub(crate) fn hold(&mut self, name: &'static str, got: u64) -> io::Result<()> {
         let expected = self.reader.word()?;
-        self.meet(name, expected, got);
-        Ok(())
+        self.meet(name, expected, got)
     }
 
     // A float, held to the next word, NaN as one value.
     fn hold_float(&mut self, name: &'static str, got: f64) -> io::Result<()> {
         let expected = self.reader.float()?;
-        self.meet(name, words::word_of(expected), words::word_of(got));
-        Ok(())
+        self.meet(name, words::word_of(expected), words::word_of(got))
     }
 
     fn hold_flag(&mut self, name: &'static str, got: bool) -> io::Result<()> {
@@ -140,7 +139,7 @@ impl<R: BufRead> Trace<R> {
         refusal: &'static str,
         answer: Result<usize, Refusal>,
     ) -> io::Result<()> {
-        self.meet(refusal, 0, told(answer.err()));
+        self.meet(refusal, 0, told(answer.err()))?;
         self.hold(name, answer.unwrap_or(0) as u64)
     }
 

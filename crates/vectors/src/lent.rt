@@ -3,7 +3,7 @@ ghost use Rattle.std.specs.Prelude.{◌≤◌};
 
 use crate::reading::Reader;
 use std::io;
-use std::io::BufRead;
+use std::io::Read;
 use table::Answer;
 use tracker::{LentFrame, Pair, Table, TrackerConfig};
 
@@ -59,7 +59,7 @@ pub(crate) struct Detections {
 impl Detections {
     // The period and the number of detections are cut down to the most that can be meant.
     pub(crate) fn read(
-        reader: &mut Reader<impl BufRead>,
+        reader: &mut Reader<impl Read>,
         shape: Shape,
         longest: usize,
         most: usize,

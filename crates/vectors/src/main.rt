@@ -10,21 +10,24 @@ mod reading;
 use holding::{Trace, told};
 use reading::Reader;
 use std::io;
-use std::io::{BufRead, BufReader};
+use std::io::Read;
 
 fn main(rt: HostRuntime) -> io::Result<()> {
-    let input = BufReader::with_capacity(rt.alloc(), 65536, rt.reader())?;
-    let mut reader = Reader::new(rt.alloc(), input);
+    let mut reader = Reader::new(rt.alloc(), rt.reader());
     let traces = reader.few(1000000)?;
     if traces == 0 {
         return pace::run(&rt, &mut reader);
     }
-    let mut trace = Trace::new(reader);
+    let mut trace = Trace::new(&rt, reader);
     hold_traces(&rt, &mut trace, traces)
 }
 
 // Each trace, and a line for all.
-fn hold_traces(rt: &impl Print, trace: &mut Trace<impl BufRead>, traces: usize) -> io::Result<()> {
+fn hold_traces<P: Print>(
+    rt: &P,
+    trace: &mut Trace<'_, impl Read, P>,
+    traces: usize,
+) -> io::Result<()> {
     // room for 64 records of 16 points of 3 coordinates with 8 past detections
     let mut storage = [0.0; 55296];
     let mut frames = 0u64;
@@ -38,20 +41,22 @@ fn hold_traces(rt: &impl Print, trace: &mut Trace<impl BufRead>, traces: usize) 
 }
 
 // A trace, and its line.
-fn hold_trace(
-    rt: &impl Print,
+fn hold_trace<P: Print>(
+    rt: &P,
     n: usize,
-    trace: &mut Trace<impl BufRead>,
+    trace: &mut Trace<'_, impl Read, P>,
     storage: &mut [f64],
 ) -> io::Result<()> {
+    print!(rt; "trace {n}: ")?;
     trace.begin();
     let config = trace.reader.settings()?;
     let made = tracker::new(config, storage);
     trace.hold("making", told(made.refusal))?;
     frames::run(trace, made.table, storage)?;
     let frames = trace.frame;
-    match trace.first {
-        None => println!(rt; "trace {n}: {frames} frames, same"),
-        Some(first) => println!(rt; "trace {n}: first {first}; {frames} frames"),
+    if trace.differences == 0 {
+        println!(rt; "{frames} frames, same")
+    } else {
+        println!(rt; "{frames} frames")
     }
 }

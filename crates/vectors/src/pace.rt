@@ -2,7 +2,7 @@
 use crate::lent::{Detections, Shape};
 use crate::reading::Reader;
 use std::io;
-use std::io::BufRead;
+use std::io::Read;
 use tracker::{Pair, Table, TrackerConfig};
 
 // What the host lends in a frame.
@@ -25,7 +25,7 @@ struct Sums {
 // The whole job; at the input's end every word is 0, so that it ends at once.
 pub(crate) fn run(
     rt: &(impl Print + AllocGlobal),
-    reader: &mut Reader<impl BufRead>,
+    reader: &mut Reader<impl Read>,
 ) -> io::Result<()> {
     let rounds = reader.few(1000000000)?;
     let config = reader.settings()?;
@@ -42,7 +42,7 @@ pub(crate) fn run(
     )
 }
 
-fn read_frame(reader: &mut Reader<impl BufRead>, shape: Shape) -> io::Result<Frame> {
+fn read_frame(reader: &mut Reader<impl Read>, shape: Shape) -> io::Result<Frame> {
     let mut detections = Detections::read(reader, shape, 1000, 32)?;
     // the frames of a pace have one point of 2 coordinates in a detection (FORMAT.md)
     detections.cut(64, 32);

@@ -3,24 +3,46 @@ ghost use Rattle.std.specs.Prelude.{◌≡◌, ◌≤◌, IfOk, vec_len};
 
 use std::alloc::Global;
 use std::io;
-use std::io::BufRead;
+use std::io::Read;
 use tracker::{FilterSettings, TrackerConfig};
 
+// How many bytes are read at a time.
+const PART: u64 = 65536;
+
+// The part of the input that was read last, and the place in it.
 #[derive(Drop)]
 pub(crate) struct Reader<R> {
     input: R,
+    part: Vec<u8>,
+    at: usize,
     alloc: Global,
 }
 
-impl<R: BufRead> Reader<R> {
+impl<R: Read> Reader<R> {
     pub(crate) fn new(alloc: Global, input: R) -> Self {
-        Reader { input, alloc }
+        Reader {
+            input,
+            part: Vec::new(alloc),
+            at: 0,
+            alloc,
+        }
+    }
+
+    // The next part, whole but at the input's end. Where a read fails, no word of it is held to anything.
+    fn read_part(&mut self) -> io::Result<()> {
+        self.part.clear();
+        self.at = 0;
+        self.input.by_ref().take(PART).read_to_end(&mut self.part)?;
+        Ok(())
     }
 
     fn byte(&mut self) -> io::Result<Option<u8>> {
-        let byte = self.input.fill_buf()?.first().copied();
+        if self.at >= self.part.len() {
+            self.read_part()?;
+        }
+        let byte = self.part.get(self.at).copied();
         if byte.is_some() {
-            self.input.consume(1);
+            self.at += 1;
         }
         Ok(byte)
     }

@@ -8,5 +8,5 @@ use Rattle.predict.proofs.predict_each.Given as goal
 abbrev pub invariant-loop-i : goal.invariant-loop-i
 invariant-loop-i l =
     let c = l.settings.config in
-    let done = each_predicted c (slots (block_size c) l.fn.records l.initial.s l.i) in
-    (l.records ≡ records_back done l.fn.records) × (l.s ≡ floats_back (block_size c) done l.initial.s)
+    let done = each_predicted c (slots (block_size c) l.initial.records l.initial.s l.i) in
+    (l.records ≡ records_back done l.initial.records) × (l.s ≡ floats_back (block_size c) done l.initial.s)

@@ -3,8 +3,8 @@ use Rattle.reid.proofs.Places.{merges_bounded}
 use Rattle.reid.proofs.Composing.{count_after, records_after, floats_after}
 use Rattle.reid.proofs.reid_table.Goals as goal
 
-pub merge_each-merged-requires : goal.merge_each-merged-requires
-merge_each-merged-requires c =
+pub merge_each-records-requires : goal.merge_each-records-requires
+merge_each-records-requires c =
     let p = c.requires in
     let n = merges_bounded c.args.t c.args.distances.now p.meets c.decide-places.ensures in
     (p.fit, p.room, p.ranges, n.few, n.rows, n.cols)
@@ -15,8 +15,8 @@ unfolding reid_table
 returns c =
     let a = c.args in
     let decided = c.decide-places.ensures in
-    let merged = c.merge_each-merged.ensures in
-    let kept = c.drop_absorbed-kept.ensures in
+    let merged = c.merge_each-records.ensures in
+    let kept = c.drop_absorbed.ensures in
     record {
       value =
           rw (

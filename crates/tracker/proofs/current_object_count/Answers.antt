@@ -25,4 +25,4 @@ unfolding current_answer first_due
 returns c =
     let e : whole_table c.args.t ≡ true = sym c.is_whole.ensures ∙ not-false _ c.if-not-is_whole.false-raw in
     let f = whole_facts c.args.t e in
-    rw (e, c.active_count.ensures, counted_front c.args.t.counts.records c.args.t.records (omega (arith, f.counts.records, f.settings.capacity.1)))
+    rw (e, c.active_count-active.ensures, counted_front c.args.t.counts.records c.args.t.records (omega (arith, f.counts.records, f.settings.capacity.1)))

@@ -6,7 +6,7 @@ use Rattle.matching_step.proofs.HitLoop.{Passing, put_first, permanent_most, obj
 use Rattle.matching_step.proofs.changing.hit_each.Goals as goal
 use Rattle.matching_step.proofs.changing.hit_each.Goals.{In-loop-i}
 
-passing : (c : In-loop-i) → Passing c.args.settings.config (lent_frame c.args.f) c.args.picks.now c.args.counts c.args.records c.args.s.now
+passing : (c : In-loop-i) → Passing c.args.settings.config (lent_frame c.args.f) c.args.picks.now c.args.stepped.now.counts c.args.stepped.now.records c.args.s.now
 passing c = record { fits = c.requires.0; holding = c.requires.1; all = omega arith; rows = c.requires.4; cols = c.requires.5 }
 
 pub loop-i-init : goal.loop-i-init
@@ -25,12 +25,12 @@ hit_at-changed-requires c =
       block_inside pass c.loop-i.i c.loop-i.invariant c.loop-i-test.true,
     )
 
-pub issue-counts-requires : goal.issue-counts-requires
-issue-counts-requires c =
-    let pass = passing (goal.at.issue-counts-requires c).In-loop-i in
+pub issue-stepped-requires : goal.issue-stepped-requires
+issue-stepped-requires c =
+    let pass = passing (goal.at.issue-stepped-requires c).In-loop-i in
     omega (arith, permanent_most pass c.loop-i.i c.loop-i.invariant)
 
 pub loop-i-preserved : goal.loop-i-preserved
 loop-i-preserved c =
     let pass = passing (goal.at.loop-i-preserved c).In-loop-i in
-    put_next pass c.loop-i.i c.loop-i.invariant c.loop-i-test.true c.hit_at-changed.ensures.value c.hit_at-changed.ensures.s_after c.issue-counts.ensures
+    put_next pass c.loop-i.i c.loop-i.invariant c.loop-i-test.true c.hit_at-changed.ensures.value c.hit_at-changed.ensures.s_after c.issue-stepped.ensures

@@ -6,5 +6,5 @@ use Rattle.matching_step.proofs.changing.hit_each.Given as goal
 
 abbrev pub invariant-loop-i : goal.invariant-loop-i
 invariant-loop-i l =
-    Put l.settings.config l.fn.records l.fn.s
-    (passed l.settings.config (lent_frame l.f) l.picks l.fn.counts l.fn.records l.fn.s l.i) l.records l.counts l.s
+    Put l.settings.config l.initial.stepped.records l.initial.s
+    (passed l.settings.config (lent_frame l.f) l.picks l.initial.stepped.counts l.initial.stepped.records l.initial.s l.i) l.stepped.records l.stepped.counts l.s

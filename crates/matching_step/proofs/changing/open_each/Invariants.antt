@@ -9,5 +9,5 @@ use Rattle.matching_step.proofs.changing.open_each.Given as goal
 abbrev pub invariant-loop-d : goal.invariant-loop-d
 invariant-loop-d l =
     let c = l.settings.config in
-    Put c l.fn.records l.fn.s
-    (opens c (lent_frame l.f) l.fn.s (take l.d-index (numbers l.left)) (found c l.fn.records l.fn.s l.fn.counts)) l.records l.counts l.s
+    Put c l.initial.stepped.records l.initial.s
+    (opens c (lent_frame l.f) l.initial.s (take l.d-index (numbers l.left)) (found c l.initial.stepped.records l.initial.s l.initial.stepped.counts)) l.stepped.records l.stepped.counts l.s

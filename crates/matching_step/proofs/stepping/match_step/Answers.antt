@@ -8,44 +8,44 @@ use Rattle.matching_step.proofs.Chain.{first_rows, first_cols, second_rows, seco
 use Rattle.matching_step.proofs.Deciding.{few_hits}
 use Rattle.matching_step.proofs.PutBack.{Put, put_long}
 use Rattle.matching_step.proofs.stepping.match_step.Goals as goal
-use Rattle.matching_step.proofs.stepping.match_step.Goals.{After-hit_each-one, After-hit_each-two, After-open_each}
+use Rattle.matching_step.proofs.stepping.match_step.Goals.{After-hit_each, After-hit_each-2, After-open_each}
 
 -- ---- what each part put back
 
-first : (c : After-hit_each-one)
+first : (c : After-hit_each)
     → let t = c.args.t.now in
     Put t.config t.records c.args.s.now (after_first t c.args.s.now (length c.args.f.has_scores.now) (lent_frame c.args.f))
-    c.hit_each-one.result.records c.hit_each-one.result.counts c.hit_each-one.new.s
+    c.hit_each.new.stepped.records c.hit_each.new.stepped.counts c.hit_each.new.s
 first c =
-    put_first c.args.t.now c.args.s.now (lent_frame c.args.f) c.requires.0 c.requires.1 c.hit_each-one.ensures.value c.hit_each-one.ensures.s_after
+    put_first c.args.t.now c.args.s.now (lent_frame c.args.f) c.requires.0 c.requires.1 c.hit_each.ensures.value c.hit_each.ensures.s_after
 
-second : (c : After-hit_each-two)
+second : (c : After-hit_each-2)
     → let t = c.args.t.now in
     Put t.config t.records c.args.s.now (after_second t c.args.s.now (length c.args.f.has_scores.now) (lent_frame c.args.f))
-    c.hit_each-two.result.records c.hit_each-two.result.counts c.hit_each-two.new.s
+    c.hit_each-2.new.stepped.records c.hit_each-2.new.stepped.counts c.hit_each-2.new.s
 second c =
     let t = c.args.t.now in
     let s = c.args.s.now in
     let f = lent_frame c.args.f in
-    let one = put_first t s f c.requires.0 c.requires.1 c.hit_each-one.ensures.value c.hit_each-one.ensures.s_after in
-    put_second t s f c.requires.0 c.requires.1 one c.hit_each-two.ensures.value c.hit_each-two.ensures.s_after
+    let one = put_first t s f c.requires.0 c.requires.1 c.hit_each.ensures.value c.hit_each.ensures.s_after in
+    put_second t s f c.requires.0 c.requires.1 one c.hit_each-2.ensures.value c.hit_each-2.ensures.s_after
 
 third : (c : After-open_each)
     → let t = c.args.t.now in
     Put t.config t.records c.args.s.now (after_opening t c.args.s.now (length c.args.f.has_scores.now) (lent_frame c.args.f))
-    c.open_each.result.records c.open_each.result.counts c.open_each.new.s
+    c.open_each.new.stepped.records c.open_each.new.stepped.counts c.open_each.new.s
 third c =
     let t = c.args.t.now in
     let s = c.args.s.now in
     let f = lent_frame c.args.f in
-    let one = put_first t s f c.requires.0 c.requires.1 c.hit_each-one.ensures.value c.hit_each-one.ensures.s_after in
-    let two = put_second t s f c.requires.0 c.requires.1 one c.hit_each-two.ensures.value c.hit_each-two.ensures.s_after in
+    let one = put_first t s f c.requires.0 c.requires.1 c.hit_each.ensures.value c.hit_each.ensures.s_after in
+    let two = put_second t s f c.requires.0 c.requires.1 one c.hit_each-2.ensures.value c.hit_each-2.ensures.s_after in
     put_third t s f c.requires.0 c.requires.1 two c.open_each.ensures.value c.open_each.ensures.s_after
 
 -- ---- what each part leans on
 
-pub hit_each-one-requires : goal.hit_each-one-requires
-hit_each-one-requires c =
+pub hit_each-requires : goal.hit_each-requires
+hit_each-requires c =
     let t = c.args.t.now in
     let r = c.requires.0 in
     let f = lent_frame c.args.f in
@@ -59,13 +59,13 @@ hit_each-one-requires c =
       omega (arith, r.permanent),
     )
 
-pub hit_each-two-requires : goal.hit_each-two-requires
-hit_each-two-requires c =
+pub hit_each-requires-2 : goal.hit_each-requires-2
+hit_each-requires-2 c =
     let t = c.args.t.now in
     let r = c.requires.0 in
     let f = lent_frame c.args.f in
     let n = length c.args.f.has_scores.now in
-    let put = first (goal.at.hit_each-two-requires c).After-hit_each-one in
+    let put = first (goal.at.hit_each-requires-2 c).After-hit_each in
     let stands = stands_after_first t c.args.s.now f r in
     let same = counted_again stands put in (
       r.fits,
@@ -83,7 +83,7 @@ open_each-requires c =
     let s = c.args.s.now in
     let r = c.requires.0 in
     let f = lent_frame c.args.f in
-    let put = second (goal.at.open_each-requires c).After-hit_each-two in
+    let put = second (goal.at.open_each-requires c).After-hit_each-2 in
     let stands = stands_after_second t s f r in
     let same = counted_again stands put in
     let long = put_long put stands.sized (rw stands.long r.holding.room) in (

@@ -17,6 +17,6 @@ pub returns : goal.returns
 returns c =
     let a = c.args in
     let leaving = take a.places.now.count a.places.now.rows in
-    let same = as_staying leaving c.loop-i.stays (block_size a.settings.config) a.records a.s.now a.n c.loop-i-test.false c.loop-i.invariant.1 in
+    let same = as_staying leaving c.loop-i.stays (block_size a.settings.config) a.kept.now.records a.s.now a.kept.now.count c.loop-i-test.false c.loop-i.invariant.1 in
     let kept = c.move_staying.ensures in
     record { value = kept.value ∙ rw same; s_after = kept.s_after ∙ rw same }

@@ -4,4 +4,4 @@ use Rattle.table.proofs.Moving.{Moved}
 use Rattle.table.proofs.staying.move_staying.Given as goal
 
 abbrev pub invariant-loop-i : goal.invariant-loop-i
-invariant-loop-i l = Moved (λ i. get_or l.stays i false) l.size l.records l.initial.s l.i l.kept l.s
+invariant-loop-i l = Moved (λ i. get_or l.stays i false) l.size l.initial.kept.records l.initial.s l.i l.kept l.s
