@@ -1,5 +1,5 @@
 // Rules 45 and 46 on a table's records and floats: the hits of a pass in pick order, and the openings by ascending number.
-// What fits a frame and what holds of picks stays in the clauses: it ties them to the settings and to the table at hand, so that a struct for it would hold all of these. Records are lent as `Stepped`, the table's own array and its counts: fixed memory is a rule of the project, and a record is not copied for each pass.
+// What fits a frame and what holds of picks stays in the clauses: it ties them to the settings and to the table at hand, so that a struct for it would hold all of these. Records are lent as `Stepped`, the table's own array and its counts: fixed memory is a rule of the project, and the array is not copied for each pass.
 ghost use Rattle.std.specs.Prelude.{◌≡◌, ◌+◌, ◌*◌, ◌<◌, ◌≤◌, length, take, drop};
 ghost use Rattle.std.proofs.Math.Seq.{paste};
 ghost use Rattle.laws.specs.Turns.{through};

@@ -7,7 +7,7 @@ use tracker::Table;
 // The floats of a record's block.
 const BLOCK: usize = 15;
 
-// The tracker has room for 8 records, so that no matrix has more rows or columns.
+// The most rows and columns of a matrix: there is room for 8 records, and no more detections are measured.
 const MOST: usize = 8;
 
 // The i-th of the parts of one size; empty past the end.

@@ -1,4 +1,4 @@
-// Rules 30 and 63: the records that stay move down in order, and their blocks with them. Records are lent as `Kept` beside their floats, so that none is copied but down.
+// Rules 30 and 63: the records that stay move down in order, and their blocks with them. Records are lent as `Kept` beside their floats, so that the array is not copied.
 ghost use Rattle.std.specs.Prelude.{◌≡◌, false, ◌*◌, ◌≤◌, get_or, length};
 ghost use Rattle.parts.specs.Layout.{block_size};
 ghost use Rattle.table.specs.Slots.{slots_where, kept_back, floats_back};
